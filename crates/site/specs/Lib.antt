@@ -1,0 +1,5 @@
+pub mod Checks
+pub mod Contract
+pub mod Kept
+pub mod State
+pub mod Tables
