@@ -2,15 +2,19 @@
 mod desk;
 mod run;
 
+use run::Broadcast;
 use std::env;
+use std::error::AnyError;
 use std::io;
 
 const HELP: &str =
     "rehearse: performs a script of calls on a site of watts and lists what each call answered
 
-  rehearse < SCRIPT    rows under the header event,a,b,c; the listing goes to standard output
-  rehearse --help      this text
+  rehearse < SCRIPT          over the wire, the carrier that one hand writes
+  rehearse votes < SCRIPT    over a vote table with 64 slots
+  rehearse --help            this text
 
+The script has rows under the header event,a,b,c; the listing goes to standard output.
 Letters and their fields:
   S gateways,settings,watts    starts the site
   O gateway                    opens a change; answers its number
@@ -22,19 +26,46 @@ Letters and their fields:
   P gateway,setting            looks at a gateway's value
 ";
 
-// Whether the program is asked to explain itself.
-fn wants_help(rt: &LibcRuntime) -> io::Result<bool> {
-    let mut args = env::args(rt)?;
-    let _program = args.next();
-    match args.next() {
-        Some(word) => Ok(word.as_str() == "--help"),
-        None => Ok(false),
-    }
+// What the program is asked to do.
+enum Asked {
+    Help,
+    Rehearse(Broadcast),
+    Unknown,
 }
 
-fn main(rt: LibcRuntime) -> io::Result<()> {
-    if wants_help(&rt)? {
-        return rt.print(HELP);
+// What one word asks for.
+fn asked_by(word: &str) -> Asked {
+    if word == "--help" {
+        return Asked::Help;
     }
-    run::rehearse(&rt)
+    if word == "votes" {
+        return Asked::Rehearse(Broadcast::Votes);
+    }
+    Asked::Unknown
+}
+
+// What the arguments ask for: at most one word.
+fn read_args(rt: &LibcRuntime) -> io::Result<Asked> {
+    let mut args = env::args(rt)?;
+    let _program = args.next();
+    let Some(word) = args.next() else {
+        return Ok(Asked::Rehearse(Broadcast::Wire));
+    };
+    if args.next().is_some() {
+        return Ok(Asked::Unknown);
+    }
+    Ok(asked_by(word.as_str()))
+}
+
+fn serve(rt: &LibcRuntime) -> Result<(), AnyError> {
+    match read_args(rt)? {
+        Asked::Help => rt.print(HELP)?,
+        Asked::Rehearse(broadcast) => run::rehearse(rt, broadcast)?,
+        Asked::Unknown => return Err("rehearse takes no word, or votes, or --help".into()),
+    }
+    Ok(())
+}
+
+fn main(rt: LibcRuntime) -> Result<(), AnyError> {
+    rt.report(serve(&rt))
 }

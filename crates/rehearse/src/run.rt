@@ -17,6 +17,9 @@ use std::io;
 use std::io::BufWriter;
 use std::io::Read;
 use std::io::Write;
+use votes::slot::Slot;
+use votes::table::VoteTable;
+use votes::voting::VoteTableCarrier;
 use wire::Wire;
 use wire::WireCarrier;
 
@@ -25,6 +28,15 @@ const CHANGES: u32 = 64;
 const CAPACITY: u32 = 256;
 
 const LINE_LIMIT: u32 = 1024;
+
+const SLOTS: u32 = 64;
+
+// The carrier that a rehearsal runs on.
+#[derive(Clone, Copy)]
+pub(crate) enum Broadcast {
+    Wire,
+    Votes,
+}
 
 // What the listing says of an event that was answered so.
 fn listed(event: Event, answer: Result<Option<i64>, Refusal>) -> Listed {
@@ -64,89 +76,106 @@ fn run_site<C: Carrier, R: Read, W: Write>(
     Ok(())
 }
 
-// Starts a site over a wire and performs the rest of the script on it; false where the start is refused.
-fn start<R: Read, W: Write>(
+// What a start row asks for, besides the number of gateways.
+#[derive(Clone, Copy)]
+struct Start {
+    settings: u32,
+    watts: i32,
+}
+
+// Starts a site over the carrier and performs the rest of the script on it; false where the start is refused.
+fn start_over<C: Carrier, R: Read, W: Write>(
     desk: &mut Desk,
     source: &mut R,
     out: &mut W,
-    gateways: u32,
-    settings: u32,
-    watts: i32,
+    carrier: &mut C,
+    start: Start,
 ) -> io::Result<bool> {
-    let mut line = [0; 1024];
-    let mut wire = Wire::new(gateways, CAPACITY, LINE_LIMIT, &mut line);
-    let initial = [Watts(watts); 64];
+    let initial = [Watts(start.watts); 64];
     let mut cells = [Cell {
         value: Watts(0),
         depth: 0,
     }; 512];
-    match Site::new(&wire, settings, CHANGES, &initial, &mut cells) {
+    match Site::new(carrier, start.settings, CHANGES, &initial, &mut cells) {
         Err(refusal) => {
-            desk.list(
-                out,
-                Listed::Refused {
-                    event: Event::Start,
-                    refusal,
-                },
-            )?;
+            desk.list(out, listed(Event::Start, Err(refusal)))?;
             Ok(false)
         }
         Ok(site) => {
-            desk.list(
-                out,
-                Listed::Served {
-                    event: Event::Start,
-                    value: None,
-                },
-            )?;
-            run_site(desk, source, out, site, &mut wire, &cells)?;
+            desk.list(out, listed(Event::Start, Ok(None)))?;
+            run_site(desk, source, out, site, carrier, &cells)?;
             Ok(true)
         }
     }
 }
 
+// Makes the carrier for so many gateways, and starts a site over it.
+fn start_with<R: Read, W: Write>(
+    desk: &mut Desk,
+    source: &mut R,
+    out: &mut W,
+    broadcast: Broadcast,
+    gateways: u32,
+    start: Start,
+) -> io::Result<bool> {
+    match broadcast {
+        Broadcast::Wire => {
+            let mut line = [0; 1024];
+            let mut wire = Wire::new(gateways, CAPACITY, LINE_LIMIT, &mut line);
+            start_over(desk, source, out, &mut wire, start)
+        }
+        Broadcast::Votes => {
+            let mut votes = [Slot::EMPTY; 64];
+            let mut line = [0; 64];
+            let mut table = VoteTable::new(gateways, CAPACITY, SLOTS, &mut votes, &mut line);
+            start_over(desk, source, out, &mut table, start)
+        }
+    }
+}
+
 // Performs the script from its first row on.
-fn run_script<R: Read, W: Write>(desk: &mut Desk, source: &mut R, out: &mut W) -> io::Result<()> {
+fn run_script<R: Read, W: Write>(
+    desk: &mut Desk,
+    source: &mut R,
+    out: &mut W,
+    broadcast: Broadcast,
+) -> io::Result<()> {
     for _ in 0..u64::MAX {
         match desk.next_row(source)? {
             None => break,
             Some(Err(fault)) => desk.list(out, Listed::Faulty(fault))?,
-            Some(
-                Ok(
-                    (
-                        _,
-                        Command::Start {
-                            gateways,
-                            settings,
-                            watts,
-                        },
-                    ),
-                ),
-            ) => {
-                if start(desk, source, out, gateways, settings, watts)? {
-                    break;
+            Some(Ok((event, command))) => match command {
+                Command::Start {
+                    gateways,
+                    settings,
+                    watts,
+                } => {
+                    if start_with(
+                        desk,
+                        source,
+                        out,
+                        broadcast,
+                        gateways,
+                        Start { settings, watts },
+                    )? {
+                        break;
+                    }
                 }
-            }
-            Some(Ok((event, _))) => desk.list(
-                out,
-                Listed::Refused {
-                    event,
-                    refusal: Refusal::Limits,
-                },
-            )?,
+                _ => desk.list(out, listed(event, Err(Refusal::Limits)))?,
+            },
         }
     }
     Ok(())
 }
 
 // Reads the script from standard input and writes the listing to standard output.
-pub(crate) fn rehearse(rt: &LibcRuntime) -> io::Result<()> {
+pub(crate) fn rehearse(rt: &LibcRuntime, broadcast: Broadcast) -> io::Result<()> {
     let mut source = rt.stdin();
     let mut out = BufWriter::new(rt.stdout());
     let mut desk = Desk::new();
     out.write_all(listing_header())?;
     if desk.takes_header(&mut source)? {
-        run_script(&mut desk, &mut source, &mut out)?;
+        run_script(&mut desk, &mut source, &mut out, broadcast)?;
     } else {
         desk.list(&mut out, Listed::Faulty(RowFault::HEADER))?;
     }

@@ -1,0 +1,4 @@
+pub mod Deciding
+pub mod Growing
+pub mod Memory
+pub mod Facts
