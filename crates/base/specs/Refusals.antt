@@ -7,7 +7,7 @@ use Rattle.std.specs.declared.option.Option.the-variants.{Some, None}
 use Rattle.std.specs.declared.result.Result.{Result}
 use Rattle.std.specs.declared.result.Result.the-variants.{Ok, Err}
 use Rattle.base.specs.declared.refusal.Refusal.{Refusal}
-use Rattle.base.specs.declared.refusal.Refusal.the-variants.{Layout, Limits, Carrier, UnknownGateway, UnknownChange, UnknownSetting, NoChangeLeft, NotOpen, Overwritten, Full}
+use Rattle.base.specs.declared.refusal.Refusal.the-variants.{Layout, Limits, Carrier, UnknownGateway, UnknownChange, UnknownSetting, NoChangeLeft, NotOpen, Overwritten, Full, Leading, NoHistory, NotLeading, NotSubmitted, AlreadyDecided, OpeningMissing, NoMessageLeft}
 
 abbrev pub number : Refusal → ℕ
 number Layout = 1
@@ -20,6 +20,13 @@ number NoChangeLeft = 7
 number NotOpen = 8
 number Overwritten = 9
 number Full = 10
+number Leading = 11
+number NoHistory = 12
+number NotLeading = 13
+number NotSubmitted = 14
+number AlreadyDecided = 15
+number OpeningMissing = 16
+number NoMessageLeft = 17
 
 -- a table of conditions in checking order, each with its refusal
 abbrev pub Checks : Type 0

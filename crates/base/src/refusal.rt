@@ -21,6 +21,20 @@ pub enum Refusal {
     Overwritten,
     // One note or update too many.
     Full,
+    // The gateway leads.
+    Leading,
+    // The message named for a leader's history is unknown, or its path lacks the gateway's last applied message.
+    NoHistory,
+    // The gateway follows.
+    NotLeading,
+    // The change is not submitted.
+    NotSubmitted,
+    // The head's path has a message for the change.
+    AlreadyDecided,
+    // The head's path lacks the change's opening point.
+    OpeningMissing,
+    // Every message number is used.
+    NoMessageLeft,
 }
 
 impl Refusal {
@@ -39,6 +53,13 @@ impl Refusal {
             Refusal::NotOpen => 8,
             Refusal::Overwritten => 9,
             Refusal::Full => 10,
+            Refusal::Leading => 11,
+            Refusal::NoHistory => 12,
+            Refusal::NotLeading => 13,
+            Refusal::NotSubmitted => 14,
+            Refusal::AlreadyDecided => 15,
+            Refusal::OpeningMissing => 16,
+            Refusal::NoMessageLeft => 17,
         }
     }
 }

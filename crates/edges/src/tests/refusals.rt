@@ -11,7 +11,14 @@ fn each_refusal_has_its_number() -> Result<(), Fail> {
     check_eq(Refusal::NoChangeLeft.code(), 7)?;
     check_eq(Refusal::NotOpen.code(), 8)?;
     check_eq(Refusal::Overwritten.code(), 9)?;
-    check_eq(Refusal::Full.code(), 10)
+    check_eq(Refusal::Full.code(), 10)?;
+    check_eq(Refusal::Leading.code(), 11)?;
+    check_eq(Refusal::NoHistory.code(), 12)?;
+    check_eq(Refusal::NotLeading.code(), 13)?;
+    check_eq(Refusal::NotSubmitted.code(), 14)?;
+    check_eq(Refusal::AlreadyDecided.code(), 15)?;
+    check_eq(Refusal::OpeningMissing.code(), 16)?;
+    check_eq(Refusal::NoMessageLeft.code(), 17)
 }
 
 #[test]
