@@ -8,7 +8,8 @@ use Rattle.std.proofs.shelf.Elements.{all-getD}
 use Rattle.std.specs.shelf.Lists.{All}
 use Rattle.std.specs.declared.option.Option.{Option}
 use Rattle.std.specs.declared.option.Option.the-variants.{None, Some}
-use Rattle.std.specs.declared.result.Result.the-variants.{Ok}
+use Rattle.std.specs.declared.result.Result.the-variants.{Ok, Err}
+use Rattle.base.specs.declared.refusal.Refusal.the-variants.{NotLeading, AlreadyDecided}
 use Rattle.carrier.specs.Meaning.{Meaning, Sound}
 use Rattle.protocol.specs.declared.answers.Delivery.the-variants as delivery
 use Rattle.protocol.specs.declared.records.Cell.{Cell}
@@ -20,11 +21,11 @@ use Rattle.protocol.specs.declared.records.State.the-variants.{Submitted}
 use Rattle.protocol.specs.Paths.{path}
 use Rattle.protocol.specs.View.{GatewayView, ChangeView}
 use Rattle.protocol.specs.Calls.{started, open-refused, after-open, read-refused, read-value, after-read, write-refused, after-write, submit-refused, after-submit, stir-refused, look-refused, look-value}
-use Rattle.protocol.specs.Roles.{elect-refused, after-elect}
+use Rattle.protocol.specs.Roles.{elect-refused, after-elect, recall-refused, after-recall}
 use Rattle.protocol.specs.Certify.{certify-refused, certified, after-certify}
 use Rattle.protocol.specs.Deliver.{deliver-refused, delivered, after-deliver}
-use Rattle.runs.specs.Runs.{World, stirs, delivers, elects, certifies, History, Reached, Served-new, by-open, by-read, by-write, by-submit, by-elect, by-certify, by-stir, by-deliver, by-look, new, then}
-use Rattle.runs.specs.Examples.{two-shares, Happens, two-raises, dropped-off-late, dropped-off-early}
+use Rattle.runs.specs.Runs.{World, stirs, delivers, elects, recalls, certifies, History, Reached, Served-new, by-open, by-read, by-write, by-submit, by-elect, by-recall, by-certify, by-stir, by-deliver, by-look, new, then}
+use Rattle.runs.specs.Examples.{two-shares, Happens, two-raises, dropped-off-late, dropped-off-early, taken-over}
 
 sound-from : (m : Meaning) → All (λ n. n < m .count) (m .line) → All (λ p. p ≤ length (m .line)) (m .places) → length (m .places) ≡ m .gateways → Sound m
 sound-from m a b e =
@@ -153,3 +154,34 @@ early =
     let looked-01 = then looked-00 (by-look 0 1 (Ok 3000) refl) in
     let looked-10 = then looked-01 (by-look 1 0 (Ok 2000) refl) in
     (early-settled, then looked-10 (by-look 1 1 (Ok 3000) refl))
+
+-- gateway 1 takes over
+
+abbrev over-recalled : World ℕ
+over-recalled = world (first-raise ∷ []) (gateway None Follower (share 2000 0) (share 2000 0)) (gateway None Follower (share 2000 0) (share 2000 0)) (carrier-with 1 [] (0 ∷ 0 ∷ []))
+
+over-first : (h : History ℕ) → Reached eqb two-shares h raised → Reached eqb two-shares ((h ++ (recalls 0 (Ok tt) ∷ [])) ++ (certifies 0 1 (Err NotLeading) ∷ [])) over-recalled
+unfolding recall-refused after-recall certify-refused path
+over-first h r = then (then r (by-recall 0)) (by-certify 0 1)
+
+abbrev over-decided : World ℕ
+over-decided = world (first-raise ∷ aborted-raise ∷ []) (gateway None Follower (share 2000 0) (share 2000 0)) (gateway None (Leader (Some 1)) (share 2000 0) (share 2000 0)) (carrier-with 2 [] (0 ∷ 0 ∷ []))
+
+over-second : (h : History ℕ) → Reached eqb two-shares h over-recalled → Reached eqb two-shares (((h ++ (elects 1 (Some 0) (Ok tt) ∷ [])) ++ (certifies 1 1 (Ok (record { number = 1; outcome = Abort })) ∷ [])) ++ (certifies 1 1 (Err AlreadyDecided) ∷ [])) over-decided
+unfolding elect-refused after-elect certify-refused certified after-certify path
+over-second h r = then (then (then r (by-elect 1 (Some 0))) (by-certify 1 1)) (by-certify 1 1)
+
+abbrev over-settled : World ℕ
+over-settled = world (first-raise ∷ aborted-raise ∷ []) (gateway None Follower (share 2000 0) (share 2000 0)) (gateway (Some 1) (Leader (Some 1)) (share 3000 1) (share 2000 0)) (carrier-with 2 (1 ∷ 0 ∷ 1 ∷ []) (0 ∷ 3 ∷ []))
+
+over-third : (h : History ℕ) → Reached eqb two-shares h over-decided → Reached eqb two-shares ((((h ++ (stirs 0 (Ok 3) ∷ [])) ++ (delivers 1 (Ok (delivery.Discard 1)) ∷ [])) ++ (delivers 1 (Ok (delivery.Commit 0)) ∷ [])) ++ (delivers 1 (Ok (delivery.Restart 1)) ∷ [])) over-settled
+unfolding stir-refused deliver-refused delivered after-deliver path
+over-third h r =
+    let stirred = then r (by-stir 0 (carrier-with 2 (1 ∷ 0 ∷ 1 ∷ []) (0 ∷ 0 ∷ [])) 3 (record { only-the-line = refl; begins-as-before = refl; joined-are-counted = refl }) (sound-from (carrier-with 2 (1 ∷ 0 ∷ 1 ∷ []) (0 ∷ 0 ∷ [])) (lit< tt, (lit< tt, (lit< tt, tt))) (lit≤ tt, (lit≤ tt, tt)) refl)) in
+    then (then (then stirred (by-deliver 1)) (by-deliver 1)) (by-deliver 1)
+
+pub over : Happens taken-over
+unfolding look-refused look-value
+over =
+    let looked-10 = then (over-third _ (over-second _ (over-first two-raises both-raised))) (by-look 1 0 (Ok 3000) refl) in
+    (over-settled, then looked-10 (by-look 1 1 (Ok 2000) refl))

@@ -151,7 +151,7 @@ module _ {V : Type 0} where
   keep-served b alike w i (recalls-leader g l ld) = keep-role b w i g Follower l (omega arith)
   keep-served b alike w i (decides-change g k lg lk ld st nd between eb eo) =
       let x = new-message (w .site) g k in
-      let ok : MessageOk (w .site) (x .precedent) x = record { change = change-at (w .site) k; change-known = lk; found = refl; submitted = st; not-decided = nd; between = between; behind-opening = eb; right-outcome = eo } in
+      let ok : MessageOk (w .site) (x .precedent) x = record { behind-precedent = refl; change = change-at (w .site) k; change-known = lk; found = refl; submitted = st; not-decided = nd; between = between; behind-opening = eb; right-outcome = eo } in
       let next = keep-message b w i x (i .heads-known g) ok in
       keep-role b _ next g (Leader (Some (length (w .site .messages)))) lg (let n = length-push (w .site .messages) x in omega arith)
   keep-served b alike w i (stirs-line x m joined st so) = keep-stirred b w i m joined st so

@@ -28,7 +28,7 @@ use Rattle.protocol.specs.Certify.{message-at, history, decides, new-message}
 use Rattle.protocol.specs.Deliver.{same-point, report, is-home}
 use Rattle.protocol.proofs.PathLaws.{path-some}
 use Rattle.runs.specs.Runs.{World, Start, begun, Entry, opens, reads, writes, submits, abandons, elects, recalls, certifies, stirs, delivers, looks, History, Reached, new, then}
-use Rattle.runs.specs.Words.{when, applied-message, applied, Decision, decision, was-submitted}
+use Rattle.runs.specs.Words.{when, applied-message, applied, Decision, decision, was-submitted, home}
 use Rattle.runs.specs.Broadcast.{last, Reign, with-applied, In-reign, messages, Was-certified, For-another, Broadcast, Broadcasts}
 use Rattle.runs.proofs.Paths.{named-known, last-view, same-point-true, lower-known, path-extends, path-before}
 use Rattle.runs.proofs.Settings.{none-not-some, some-same}
@@ -112,6 +112,7 @@ module _ {V : Type 0} where
 
     record Rightly-delivered (h : History V) (g : ℕ) (d : Delivery) : Type 0 where
       certain : (n : ℕ) → applied-message (Some d) ≡ n ∷ [] → Was-certified h n
+      as-certified : (n : ℕ) (x : Decision) → applied-message (Some d) ≡ n ∷ [] → decision h n ≡ Some x → d ≡ report (x .outcome) (same-point (home h (x .change)) (Some g)) n
       in-order : (n : ℕ) → applied-message (Some d) ≡ n ∷ [] → prior (messages h) n ≡ last (applied h g)
       out-of-order : (n : ℕ) → d ≡ Discard n → prior (messages h) n ≡ last (applied h g) → ⊥
 
@@ -196,6 +197,13 @@ module _ {V : Type 0} where
                 (all-right (λ n. eqb (message-at v n .change) k ≡ false) (path (v .messages) (l .now .initial)) (l .now .certified) (subst (All (λ n. eqb (message-at v n .change) k ≡ false)) (l .history-said) (all-others k (history v g) nd)));
           }
 
+      -- an answer, as the history has the decision and the home
+      report-said : (g n : ℕ) (x : Decision) → n < length (v .messages) → decision h n ≡ Some x → report (message-at v n .outcome) (is-home v g n) n ≡ report (x .outcome) (same-point (home h (x .change)) (Some g)) n
+      report-said g n x l f =
+          let c = q .changes-said (message-at v n .change) (i .messages n l .change-known) in
+          let e : record { change = message-at v n .change; outcome = message-at v n .outcome } ≡ x = some-same _ x (sym (q .decided-said n l) ∙ f) in
+          ap (λ z. report (message-at v n .outcome) (same-point z (Some g)) n) (sym (c .home-said)) ∙ ap (λ (z : Decision). report (z .outcome) (same-point (home h (z .change)) (Some g)) n) e
+
       promised-served : {e : Entry V} {w′ : World V} → Served alike w e w′ → Promised h e
       promised-served (refuses e x) = promised-refused h e x
       promised-served (opens-change g l) = tt
@@ -210,10 +218,11 @@ module _ {V : Type 0} where
           promised-certify g k _ refl (r .leaders-said g (head (gateway-at v g .role)) (is-leader (gateway-at v g .role) ld)) nd (q .changes-said k lk .sent-said st)
       promised-served (stirs-line x m joined st so) = tt
       promised-served (takes-nothing g) =
-          record { certain = λ n e. absurd (empty-not-one n e); in-order = λ n e. absurd (empty-not-one n e); out-of-order = λ n e. absurd (nothing-not-discard n e) }
+          record { certain = λ n e. absurd (empty-not-one n e); as-certified = λ n x e. absurd (empty-not-one n e); in-order = λ n e. absurd (empty-not-one n e); out-of-order = λ n e. absurd (nothing-not-discard n e) }
       promised-served (discards-message g n l hw e f) =
           record {
             certain = λ m x. absurd (empty-not-one m x);
+            as-certified = λ m y x. absurd (empty-not-one m x);
             in-order = λ m x. absurd (empty-not-one m x);
             out-of-order = λ m x y. not-same-point _ _ f (ap (λ z. prior z n) (r .messages-said) ∙ ap (prior (messages h)) (same-discard n m x) ∙ y ∙ tip-said g);
           }
@@ -222,6 +231,7 @@ module _ {V : Type 0} where
           let same : (m : ℕ) → applied-message (Some d) ≡ m ∷ [] → n ≡ m = λ m x. same-message d n m (reported (message-at v n .outcome) (is-home v g n) n) x in
           record {
             certain = λ m x. subst (Was-certified h) (same m x) (record { change = message-at v n .change; outcome = message-at v n .outcome }, q .decided-said n (taken-known b w i g n l hw e));
+            as-certified = λ m y x f. subst (λ z. d ≡ report (y .outcome) (same-point (home h (y .change)) (Some g)) z) (same m x) (report-said g n y (taken-known b w i g n l hw e) (ap (decision h) (same m x) ∙ f));
             in-order = λ m x. subst (λ z. prior (messages h) z ≡ last (applied h g)) (same m x) (ap (λ z. prior z n) (sym (r .messages-said)) ∙ same-point-true _ _ t ∙ sym (tip-said g));
             out-of-order = λ m x y. absurd (report-not-discard (message-at v n .outcome) (is-home v g n) n m x);
           }
@@ -256,10 +266,12 @@ module _ {V : Type 0} where
     broadcast h w r =
         record {
           precedent = reigns r .messages-said;
+          precedent-is-lower = subst (λ z. (n : ℕ) → n < length z → prior z n ≡ getD z n no-message .precedent) (reigns r .messages-said) (λ n l. kept b alike r .messages n l .behind-precedent);
           number = λ before g k c n. promised r before (n .0) (certifies g k (Ok c)) (n .1) .numbered;
           leader-reign = λ before g k c n. promised r before (n .0) (certifies g k (Ok c)) (n .1) .reigning;
           leader-reign-to-recall = λ before g n. promised r before (n .0) (recalls g (Ok tt)) (n .1);
           validity = λ before g n d x e. promised r before (x .0) (delivers g (Ok d)) (x .1) .certain n e;
+          validity-of-answers = λ before g n d x p e f. promised r before (p .0) (delivers g (Ok d)) (p .1) .as-certified n x e f;
           validity-once = decided-once h w (kept b alike r) (said alike b r) (reigns r);
           leader-validity = λ before g k c n. promised r before (n .0) (certifies g k (Ok c)) (n .1) .was-sent;
           leader-validity-once = λ before g k c x n e.

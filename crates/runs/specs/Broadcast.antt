@@ -2,8 +2,8 @@
 use mathlib.Core.Path.{_≡_}
 use mathlib.Core.Bool.{Bool, true, cond}
 use mathlib.Core.List.{List, [], _∷_, _++_}
-use Prim.Native.Nat.{ℕ}
-use lib.ListN.{length}
+use Prim.Native.Nat.{ℕ, _<_}
+use lib.ListN.{length, getD}
 use lib.Dec.{eqb}
 use Rattle.std.specs.shelf.Lists.{All}
 use Rattle.std.specs.declared.option.Option.{Option}
@@ -13,11 +13,12 @@ use Rattle.protocol.specs.declared.answers.Certified.{Certified}
 use Rattle.protocol.specs.declared.answers.Delivery.{Delivery}
 use Rattle.protocol.specs.declared.answers.Delivery.the-variants.{Discard}
 use Rattle.protocol.specs.declared.records.Message.{Message}
-use Rattle.protocol.specs.Paths.{prior, path}
+use Rattle.protocol.specs.Paths.{no-message, prior, path}
 use Rattle.protocol.specs.Calls.{or-else}
 use Rattle.protocol.specs.Roles.{has}
+use Rattle.protocol.specs.Deliver.{same-point, report}
 use Rattle.runs.specs.Runs.{World, Start, Entry, opens, reads, writes, submits, abandons, elects, recalls, certifies, stirs, delivers, looks, History, Reached}
-use Rattle.runs.specs.Words.{given, when, applied-message, applied-in, applied, Decision, decision, was-submitted}
+use Rattle.runs.specs.Words.{given, when, applied-message, applied-in, applied, Decision, decision, was-submitted, home}
 
 -- the last message of a sequence
 abbrev pub last : List ℕ → Option ℕ
@@ -34,10 +35,12 @@ pub record Reign : Type 0 where
 abbrev pub elected : Option ℕ → Reign
 elected o = record { initial = o; certified = []; applied = [] }
 
+-- one more message was certified in a reign
 abbrev pub with-certified : Option Reign → ℕ → Option Reign
 with-certified None n = None
 with-certified (Some r) n = Some (record { initial = r .initial; certified = r .certified ++ (n ∷ []); applied = r .applied })
 
+-- more messages were applied in a reign
 abbrev pub with-applied : Option Reign → List ℕ → Option Reign
 with-applied None p = None
 with-applied (Some r) p = Some (record { initial = r .initial; certified = r .certified; applied = r .applied ++ p })
@@ -60,6 +63,7 @@ reign-after g done r (abandons k x) = r
 reign-after g done r (stirs y x) = r
 reign-after g done r (looks i s x) = r
 
+-- gateway g's reign after more entries, from what it had applied and its reign before them
 abbrev pub reign-from : {V : Type 0} → ℕ → List ℕ → Option Reign → History V → Option Reign
 reign-from g done r [] = r
 reign-from g done r (e ∷ h) = reign-from g (done ++ applied-in g e) (reign-after g done r e) h
@@ -88,6 +92,7 @@ message-in before (stirs x r) = []
 message-in before (delivers g r) = []
 message-in before (looks g s r) = []
 
+-- the messages that entries made, after the calls before them
 abbrev pub messages-from : {V : Type 0} → History V → History V → List Message
 messages-from before [] = []
 messages-from before (e ∷ h) = message-in before e ++ messages-from (before ++ (e ∷ [])) h
@@ -112,10 +117,13 @@ Was-certified h n = (x : Decision) × (decision h n ≡ Some x)
 abbrev pub For-another : {V : Type 0} → History V → ℕ → ℕ → Type 0
 For-another h k n = (x : Decision) → decision h n ≡ Some x → x .change ≡ k → ⊥
 
+-- what the broadcast promises of a history
 pub record Broadcast {V : Type 0} (h : History V) (w : World V) : Type 0 where
   -- a message's precedent is the message before it in its leader's reign, else the last one of the initial history, which
   -- is the leader's last applied one where the election named none, else none
   pub precedent : w .site .messages ≡ messages h
+  -- it is a lower number, and so the message before
+  pub precedent-is-lower : (n : ℕ) → n < length (messages h) → prior (messages h) n ≡ getD (messages h) n no-message .precedent
   -- certify answers the number of its message
   pub number : (before : History V) (g k : ℕ) (c : Certified) → Next h before (certifies g k (Ok c)) → c .number ≡ length (messages before)
   -- from its election on, a leader applies nothing but its initial history and what it certified since: the first
@@ -124,6 +132,8 @@ pub record Broadcast {V : Type 0} (h : History V) (w : World V) : Type 0 where
   pub leader-reign-to-recall : (before : History V) (g : ℕ) → Next h before (recalls g (Ok tt)) → In-reign before g
   -- a gateway applies only what some leader certified before
   pub validity : (before : History V) (g n : ℕ) (d : Delivery) → Next h before (delivers g (Ok d)) → applied-message (Some d) ≡ n ∷ [] → Was-certified before n
+  -- and answers as it was certified; at the change's home an abort is a restart
+  pub validity-of-answers : (before : History V) (g n : ℕ) (d : Delivery) (x : Decision) → Next h before (delivers g (Ok d)) → applied-message (Some d) ≡ n ∷ [] → decision before n ≡ Some x → d ≡ report (x .outcome) (same-point (home before (x .change)) (Some g)) n
   -- a gateway decides each change at most once
   pub validity-once : (g : ℕ) (earlier between later : List ℕ) (m n : ℕ) (x : Decision) → applied h g ≡ earlier ++ (m ∷ (between ++ (n ∷ later))) → decision h m ≡ Some x → For-another h (x .change) n
   -- a leader certifies only what was submitted

@@ -3,13 +3,14 @@
 use mathlib.Core.List.{[], _∷_, _++_}
 use Prim.Native.Nat.{ℕ}
 use lib.Dec.{eqb}
-use Rattle.std.specs.declared.option.Option.the-variants.{None}
+use Rattle.std.specs.declared.option.Option.the-variants.{None, Some}
 use Rattle.std.specs.declared.result.Result.the-variants.{Ok, Err}
-use Rattle.base.specs.declared.refusal.Refusal.the-variants.{NotLeading}
+use Rattle.base.specs.declared.refusal.Refusal.the-variants.{NotLeading, AlreadyDecided}
 use Rattle.protocol.specs.declared.answers.Delivery.the-variants.{Nothing, Discard, Commit, Abort, Restart}
 use Rattle.protocol.specs.declared.records.Outcome.the-variants as outcome
-use Rattle.runs.specs.Runs.{World, Start, opens, reads, writes, submits, elects, certifies, stirs, delivers, looks, History, Reached}
+use Rattle.runs.specs.Runs.{World, Start, opens, reads, writes, submits, elects, recalls, certifies, stirs, delivers, looks, History, Reached}
 
+-- the site as new is called
 abbrev pub two-shares : Start ℕ
 two-shares = record {
   carrier = record { gateways = 2; capacity = 16; count = 0; line = []; places = 0 ∷ 0 ∷ [] };
@@ -51,4 +52,14 @@ dropped-off-early = two-raises ++
     ∷ stirs 0 (Ok 2) ∷ delivers 0 (Ok (Commit 1)) ∷ delivers 0 (Ok (Discard 0)) ∷ delivers 1 (Ok (Commit 1)) ∷ delivers 1 (Ok (Discard 0)) ∷ delivers 1 (Ok Nothing)
     ∷ certifies 0 1 (Err NotLeading)
     ∷ looks 0 0 (Ok 2000) ∷ looks 0 1 (Ok 3000) ∷ looks 1 0 (Ok 2000) ∷ looks 1 1 (Ok 3000)
+    ∷ [])
+
+-- the leader is recalled, and gateway 1 takes over with the leader's history: it aborts the second raise, and the line
+-- has the messages in another order, one of them twice
+abbrev pub taken-over : History ℕ
+taken-over = two-raises ++
+    (recalls 0 (Ok tt) ∷ certifies 0 1 (Err NotLeading)
+    ∷ elects 1 (Some 0) (Ok tt) ∷ certifies 1 1 (Ok (record { number = 1; outcome = outcome.Abort })) ∷ certifies 1 1 (Err AlreadyDecided)
+    ∷ stirs 0 (Ok 3) ∷ delivers 1 (Ok (Discard 1)) ∷ delivers 1 (Ok (Commit 0)) ∷ delivers 1 (Ok (Restart 1))
+    ∷ looks 1 0 (Ok 3000) ∷ looks 1 1 (Ok 2000)
     ∷ [])

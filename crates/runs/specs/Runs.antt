@@ -23,9 +23,11 @@ pub record World (V : Type 0) : Type 0 where
   pub site : View V
   pub carrier : Meaning
 
+-- the same carrier with another site
 abbrev pub with-site : {V : Type 0} → World V → View V → World V
 with-site w v = record { site = v; carrier = w .carrier }
 
+-- the same site with another carrier
 abbrev pub with-carrier : {V : Type 0} → World V → Meaning → World V
 with-carrier w m = record { site = w .site; carrier = m }
 

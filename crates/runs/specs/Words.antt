@@ -46,6 +46,7 @@ applied-message (Some (Commit n)) = n ∷ []
 applied-message (Some (Abort n)) = n ∷ []
 applied-message (Some (Restart n)) = n ∷ []
 
+-- what an entry says that gateway g applied
 abbrev pub applied-in : {V : Type 0} → ℕ → Entry V → List ℕ
 applied-in g (delivers i r) = applied-message (when (eqb i g) (given r))
 applied-in g (opens i r) = []
@@ -68,6 +69,7 @@ pub record Decision : Type 0 where
   pub change : ℕ
   pub outcome : Outcome
 
+-- what an entry says of message m
 abbrev pub decision-in : {V : Type 0} → ℕ → Entry V → Option Decision
 decision-in m (certifies g k (Ok c)) = when (eqb (c .number) m) (Some (record { change = k; outcome = c .outcome }))
 decision-in m (certifies g k (Err e)) = None
@@ -86,6 +88,7 @@ decision-in m (looks g s r) = None
 abbrev pub decision : {V : Type 0} → History V → ℕ → Option Decision
 decision h m = first-said (decision-in m) h
 
+-- what an entry says that change k read of setting s
 abbrev pub read-in : {V : Type 0} → ℕ → ℕ → Entry V → Option V
 read-in k s (reads j t r) = when (eqb j k && eqb t s) (given r)
 read-in k s (opens g r) = None
@@ -104,6 +107,7 @@ abbrev pub where-served : {V : Type 0} → Option (Unit {0}) → V → Option V
 where-served None x = None
 where-served (Some u) x = Some x
 
+-- what an entry says that change k wrote to setting s
 abbrev pub write-in : {V : Type 0} → ℕ → ℕ → Entry V → Option V
 write-in k s (writes j t x r) = when (eqb j k && eqb t s) (where-served (given r) x)
 write-in k s (opens g r) = None
@@ -141,6 +145,7 @@ unrepeated alike n (Some x) = cond (is-same alike n x) None (Some x)
 abbrev pub wrote : {V : Type 0} → (V → V → Bool) → History V → ℕ → ℕ → Option V
 wrote alike h k s = unrepeated alike (note h k s) (last-write h k s)
 
+-- what an entry says of the submit of change k: how many updates it left
 abbrev pub submit-in : {V : Type 0} → ℕ → Entry V → Option ℕ
 submit-in k (submits j r) = when (eqb j k) (given r)
 submit-in k (opens g r) = None
@@ -163,6 +168,7 @@ abbrev pub home-where : Option ℕ → ℕ → ℕ → Option ℕ
 home-where None k g = None
 home-where (Some j) k g = when (eqb j k) (Some g)
 
+-- what an entry says of the home of change k
 abbrev pub home-in : {V : Type 0} → ℕ → Entry V → Option ℕ
 home-in k (opens g r) = home-where (given r) k g
 home-in k (reads j s r) = None
@@ -185,6 +191,7 @@ abbrev pub before-opening : {V : Type 0} → History V → ℕ → History V
 before-opening [] k = []
 before-opening (e ∷ h) k = cond (is-none (home-in k e)) (e ∷ before-opening h k) []
 
+-- what a gateway has applied, if there is one
 abbrev pub applied-at : {V : Type 0} → History V → Option ℕ → List ℕ
 applied-at h None = []
 applied-at h (Some g) = applied h g
@@ -193,6 +200,7 @@ applied-at h (Some g) = applied h g
 abbrev pub opening : {V : Type 0} → History V → ℕ → List ℕ
 opening h k = applied-at (before-opening h k) (home h k)
 
+-- a new value, or else the old one
 abbrev pub value-or : {V : Type 0} → Option V → V → V
 value-or None x = x
 value-or (Some y) x = y
@@ -207,6 +215,7 @@ abbrev pub after-outcome : {V : Type 0} → Outcome → (ℕ → Option V) → L
 after-outcome outcome.Commit new l = put l new
 after-outcome outcome.Abort new l = l
 
+-- settings after a message, by what is known of its decision
 abbrev pub after-decision : {V : Type 0} → (V → V → Bool) → History V → Option Decision → List V → List V
 after-decision alike h None l = l
 after-decision alike h (Some d) l = after-outcome (d .outcome) (wrote alike h (d .change)) l

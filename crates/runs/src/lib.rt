@@ -2,7 +2,7 @@
 // nothing to compute.
 ghost use Rattle.runs.specs.Law.{Law};
 ghost use Rattle.runs.specs.Broadcast.{Broadcasts};
-ghost use Rattle.runs.specs.Examples.{Happens, dropped-off-late, dropped-off-early};
+ghost use Rattle.runs.specs.Examples.{Happens, dropped-off-late, dropped-off-early, taken-over};
 use base::value::Value;
 
 fn lawful_runs<V: Value>()
@@ -21,6 +21,10 @@ fn dropped_off_early()
     ensures { λ _. ⌜ Happens dropped-off-early ⌝ }
 {}
 
+fn taken_over()
+    ensures { λ _. ⌜ Happens taken-over ⌝ }
+{}
+
 // The law of a site: it holds after every list of calls, for every type of values.
 pub fn law_holds<V: Value>()
     ensures { λ _. ⌜ Law (V·Value .alike) ⌝ }
@@ -35,11 +39,13 @@ pub fn broadcast_holds<V: Value>()
     broadcast_clauses::<V>();
 }
 
-// Two short histories, in which a leader drops off half way; each answer is computed from the definitions.
+// Three short histories, in which a leader drops off half way or is recalled; each answer is computed from the definitions.
 pub fn examples_hold()
     ensures late { λ _. ⌜ Happens dropped-off-late ⌝ }
     ensures early { λ _. ⌜ Happens dropped-off-early ⌝ }
+    ensures over { λ _. ⌜ Happens taken-over ⌝ }
 {
     dropped_off_late();
     dropped_off_early();
+    taken_over();
 }
