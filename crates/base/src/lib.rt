@@ -1,4 +1,6 @@
 // What every layer uses: values of settings, the bounded list, and refusals.
+#![tactic(auto)]
+
 pub mod lists;
 pub mod refusal;
 pub mod value;

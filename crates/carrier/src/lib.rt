@@ -1,4 +1,6 @@
 // The carrier: the total order broadcast below a site.
+#![tactic(auto)]
+
 ghost use Rattle.std.specs.Prelude.{◌≡◌};
 ghost use Rattle.carrier.specs.Meaning.{Meaning, Sound, Stirred, offered, after_offer, taken, after_take};
 

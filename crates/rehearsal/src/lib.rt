@@ -1,4 +1,6 @@
 // One command of a script, performed on a site of watts over any carrier.
+#![tactic(auto)]
+
 ghost use Rattle.std.specs.Prelude.{◌≡◌};
 ghost use Rattle.rehearsal.specs.Performs.{no_value, number_value, watts_value, Performs};
 

@@ -1,4 +1,6 @@
 // rehearse: performs a script of calls from standard input on a site of watts, and lists what each call answered.
+#![tactic(auto)]
+
 mod desk;
 mod run;
 

@@ -1,5 +1,7 @@
 // Lists of calls on a site and its carrier, and what holds after each. The functions only state what is proved: there is
 // nothing to compute.
+#![tactic(auto)]
+
 ghost use Rattle.runs.specs.Law.{Law};
 ghost use Rattle.runs.specs.Broadcast.{Broadcasts};
 ghost use Rattle.runs.specs.Examples.{Happens, dropped_off_late, dropped_off_early, taken_over};

@@ -1,4 +1,6 @@
 // The script of events and the listing of their answers, as text.
+#![tactic(auto)]
+
 pub mod command;
 pub mod event;
 pub mod fault;

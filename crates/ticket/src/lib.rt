@@ -1,4 +1,6 @@
 // Tickets: a change in the hands of the code that opened it.
+#![tactic(auto)]
+
 ghost use Rattle.std.specs.Prelude.{◌≡◌};
 ghost use Rattle.site.specs.Contract.{Abandons, Opens, Reads, SameBeside, Submits, Writes};
 ghost use Rattle.ticket.specs.Tickets.{numbered};

@@ -1,4 +1,6 @@
 // A carrier whose line one caller writes: each number that joins the line is named in a call of `stir`.
+#![tactic(auto)]
+
 ghost use Rattle.std.specs.Prelude.{◌≡◌, ◌≤◌, length};
 ghost use Rattle.wire.specs.Lines.{numbers, AllBelow, NoneAbove};
 
