@@ -2,7 +2,7 @@
 use Rattle.std.proofs.Common.{◌≡◌, ℕ, ◌<◌, ◌≤◌, List, [], length, get_or, take, set, replicate, Some, None, sym, ap, ◌∙◌}
 use lib.LanesLaws.{map-replicate}
 use lib.Seq.{take-set-lt}
-use Rattle.std.proofs.lemmas.List.{get_or-map, get_or-take, length-map, map_set, take-replicate, length-replicate}
+use Rattle.std.proofs.lemmas.List.{get_or-map, get_or-take, length-map, map-set, take-replicate, length-replicate}
 use Rattle.votes.specs.declared.slot.Slot.{Slot}
 use Rattle.votes.specs.Slots.{Votes}
 use Rattle.votes.specs.Tables.{vote_at, with_vote, empty_table}
@@ -22,7 +22,7 @@ vote_in g memory k j h l = ap (λ (vs : Votes). get_or vs j None) (slot_in g mem
 
 pub vote_stored : (g : ℕ) (memory : List Slot) (k j n : ℕ) → k < length memory → j < g → table_of g (set memory k (record { votes = set (get_or memory k blank).votes j (Some n) })) ≡ with_vote (table_of g memory) k j n
 vote_stored g memory k j n h l =
-    map_set (λ (slot : Slot). take g slot.votes) memory k _
+    map-set (λ (slot : Slot). take g slot.votes) memory k _
     ∙ ap (λ (vs : Votes). set (table_of g memory) k vs) (take-set-lt g (get_or memory k blank).votes j (Some n) l ∙ ap (λ (vs : Votes). set vs j (Some n)) (sym (slot_in g memory k h)))
 
 table_cleared : (g slots : ℕ) → g ≤ 8 → table_of g (replicate slots empty_slot) ≡ empty_table g slots

@@ -3,11 +3,11 @@ use Rattle.std.proofs.lemmas.Result.{err_from_is_err_and}
 use Rattle.script.proofs.Reading.{watts_minus}
 use Rattle.script.proofs.number.watts.Goals as goal
 
-pub returns-in-err-n : goal.returns-in-err-n
-returns-in-err-n c =
-    let p = err_from_is_err_and c.from-residual.result c.from-residual.ensures.1 in
-    let e = watts_minus c.args.s.now _ c.if-s-eq45.true c.in-err-n.ensures in
+pub returns-in_err-n : goal.returns-in_err-n
+returns-in_err-n c =
+    let p = err_from_is_err_and c.from_residual.result c.from_residual.ensures.1 in
+    let e = watts_minus c.args.s.now _ c.if-s-eq45.true c.in_err-n.ensures in
     cc (p.1, p.2, e)
 
 pub returns-then-s-eq45 : goal.returns-then-s-eq45
-returns-then-s-eq45 c = c.below-zero.ensures ∙ sym (watts_minus c.args.s.now _ c.if-s-eq45.true c.in-ok-n.ensures)
+returns-then-s-eq45 c = c.below_zero.ensures ∙ sym (watts_minus c.args.s.now _ c.if-s-eq45.true c.in_ok-n.ensures)

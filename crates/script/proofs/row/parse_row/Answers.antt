@@ -8,6 +8,6 @@ use Rattle.script.proofs.row.parse_row.Goals as goal
 pub returns : goal.returns
 returns c =
     record {
-      value = c.row-in.ensures;
-      filled = subst (λ (r : Result Row RowFault). IfOk r filled_as_its_layout_asks) (sym c.row-in.ensures) (row_filled c.args.line.now);
+      value = c.row_in.ensures;
+      filled = subst (λ (r : Result Row RowFault). IfOk r filled_as_its_layout_asks) (sym c.row_in.ensures) (row_filled c.args.line.now);
     }

@@ -3,13 +3,13 @@ use Rattle.std.proofs.lemmas.List.{take_all}
 use Rattle.std.proofs.lemmas.List.Sums.{count_by_more_yes, count_by_more_no}
 use Rattle.votes.specs.Slots.{is_for, votes_for}
 use Rattle.votes.proofs.slot.tally.Goals as goal
-use Rattle.votes.proofs.slot.tally.Goals.{then-is-for, else-is-for}
+use Rattle.votes.proofs.slot.tally.Goals.{then-is_for, else-is_for}
 
 pub loop-v-preserved : goal.loop-v-preserved
 loop-v-preserved c =
-    elim c.if-is-for.branch [
-      | then-is-for w ↦ let e = count_by_more_yes (is_for c.args.number) c.args.votes.now c.loop-v.v-index None c.loop-v-test.true (sym w.if-is-for.ensures) in (omega arith, w.n-is ∙ omega arith)
-      | else-is-for w ↦ let e = count_by_more_no (is_for c.args.number) c.args.votes.now c.loop-v.v-index None c.loop-v-test.true (sym w.if-is-for.ensures) in (omega arith, w.n-is ∙ omega arith)
+    elim c.if-is_for.branch [
+      | then-is_for w ↦ let e = count_by_more_yes (is_for c.args.number) c.args.votes.now c.loop-v.v-index None c.loop-v-test.true (sym w.if-is_for.ensures) in (omega arith, w.n-is ∙ omega arith)
+      | else-is_for w ↦ let e = count_by_more_no (is_for c.args.number) c.args.votes.now c.loop-v.v-index None c.loop-v-test.true (sym w.if-is_for.ensures) in (omega arith, w.n-is ∙ omega arith)
     ]
 
 pub returns : goal.returns

@@ -14,5 +14,5 @@ returns-then-gateway-gateways c =
 pub returns : goal.returns
 returns c =
     let l = length_table c.args.gateways c.args.votes.now in
-    valid_by c.args.gateways c.args.count (table_of c.args.gateways c.args.votes.now) c.args.w c.has-voted.result (omega arith) (omega arith) (omega arith)
-    (let v = vote_in c.args.gateways c.args.votes.now c.slot-of-slot.result c.gateway-of-gateway.result c.if-slot-votes.false c.if-gateway-gateways.false in cc)
+    valid_by c.args.gateways c.args.count (table_of c.args.gateways c.args.votes.now) c.args.w c.has_voted.result (omega arith) (omega arith) (omega arith)
+    (let v = vote_in c.args.gateways c.args.votes.now c.slot_of-slot.result c.gateway_of-gateway.result c.if-slot-votes.false c.if-gateway-gateways.false in cc)

@@ -5,8 +5,8 @@ use Rattle.votes.proofs.Growing.{line_le, open_le, written_after, cached_after}
 use Rattle.votes.proofs.Memory.{length_table}
 use Rattle.votes.proofs.voting.vote.Goals as goal
 
-pub returns-then-slot-of-from : goal.returns-then-slot-of-from
-returns-then-slot-of-from c =
+pub returns-then-slot_of-from : goal.returns-then-slot_of-from
+returns-then-slot_of-from c =
     let t = table_of c.args.gateways c.args.memory.now.votes.now in
     let l = length_table c.args.gateways c.args.memory.now.votes.now in
     let i = c.requires.cached in
@@ -15,12 +15,12 @@ returns-then-slot-of-from c =
       votes = c.cast.ensures;
       slots = c.cast.auto.votes;
       size = refl;
-      cached = cached_after c.args.gateways c.args.count t c.args.w _ _ _ (omega (arith, i.2, line_le t, open_le t)) (λ e. c.if-slot-of-from.true (c.slot-of.ensures ∙ e)) i;
+      cached = cached_after c.args.gateways c.args.count t c.args.w _ _ _ (omega (arith, i.2, line_le t, open_le t)) (λ e. c.if-slot_of-from.true (c.slot_of.ensures ∙ e)) i;
       longer = omega arith;
     }
 
-pub write-on-requires : goal.write-on-requires
-write-on-requires c =
+pub write_on-requires : goal.write_on-requires
+write_on-requires c =
     let t = table_of c.args.gateways c.args.memory.now.votes.now in
     let long = c.cast.auto.votes in
     record {
@@ -32,11 +32,11 @@ write-on-requires c =
 pub returns : goal.returns
 returns c =
     let t = table_of c.args.gateways c.args.memory.now.votes.now in
-    let e = c.write-on.ensures in
+    let e = c.write_on.ensures in
     record {
       votes = ap (table_of c.args.gateways) e.votes ∙ c.cast.ensures;
       slots = ap length e.votes ∙ c.cast.auto.votes;
       size = e.size;
-      cached = subst (λ (x : Table). Cached x c.write-on.new.memory.line.now c.write-on.result.len c.write-on.result.first_open) c.cast.ensures e.cached;
+      cached = subst (λ (x : Table). Cached x c.write_on.new.memory.line.now c.write_on.result.len c.write_on.result.first_open) c.cast.ensures e.cached;
       longer = e.longer;
     }

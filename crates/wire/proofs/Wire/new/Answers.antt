@@ -13,7 +13,7 @@ returns c =
     let capacity = c.args.capacity in
     let limit = c.args.limit in
     let o = wire_refused gateways capacity limit (length c.args.memory.now) in
-    let h : is_ok (answered o (tt {0})) ≡ true = ap is_ok (sym c.check.ensures) ∙ c.is-err.ensures.negation ∙ ap not c.if-is-err.false in
+    let h : is_ok (answered o (tt {0})) ≡ true = ap is_ok (sym c.check.ensures) ∙ c.is_err.ensures.negation ∙ ap not c.if-is_err.false in
     let e = not_refused o h in
     let few : gateways ≤ 8 = omega arith in
     record {

@@ -13,6 +13,6 @@ loop-left-preserved c =
 pub returns : goal.returns
 returns c =
     record {
-      adds = c.push-all.ensures ∙ ap (λ (zs : List ℕ). clipped (written c.args.self.now ++ zs)) (spelled c.loop-left.digits c.loop-left.at c.loop-left.left c.args.n c.loop-left.invariant.0 c.loop-left.invariant.1 c.loop-left.invariant.2 c.loop-left-test.false c.loop-left.invariant.5);
+      adds = c.push_all.ensures ∙ ap (λ (zs : List ℕ). clipped (written c.args.self.now ++ zs)) (spelled c.loop-left.digits c.loop-left.at c.loop-left.left c.args.n c.loop-left.invariant.0 c.loop-left.invariant.1 c.loop-left.invariant.2 c.loop-left-test.false c.loop-left.invariant.5);
       short = length-decimal-le 20 c.args.n (omega arith) (omega arith) (omega arith);
     }

@@ -15,8 +15,8 @@ left-of : {A B : Type 0} (f : A → B) (o : Option Refusal) (a b : A) → f (lef
 left-of f None a b = refl
 left-of f (Some e) a b = refl
 
-pub invariant-of-result : goal.invariant-of-result
-invariant-of-result c =
+pub invariant_of-result : goal.invariant_of-result
+invariant_of-result c =
     let r = c.sizes-gateways.result in
     let e = c.sizes-gateways.ensures in
     let size : length c.clear.new.votes ≡ r.2 = omega arith in

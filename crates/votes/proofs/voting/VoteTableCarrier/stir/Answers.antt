@@ -6,8 +6,8 @@ use Rattle.votes.proofs.Growing.{line_le, open_le, length_after, known_after, li
 use Rattle.votes.proofs.Memory.{length_table}
 use Rattle.votes.proofs.voting.VoteTableCarrier.stir.Goals as goal
 
-pub invariant-of-self : goal.invariant-of-self
-invariant-of-self c =
+pub invariant_of-self : goal.invariant_of-self
+invariant_of-self c =
     let s = c.args.self.now in
     let n = c.vote-progress.ensures in
     let now-held = table_of s.gateways c.vote-progress.new.memory.votes.now in
@@ -41,8 +41,8 @@ invariant-of-self c =
       ),
     )
 
-pub overflow-cast-result : goal.overflow-cast-result
-overflow-cast-result c =
+pub overflow_cast-result : goal.overflow_cast-result
+overflow_cast-result c =
     let s = c.args.self.now in
     let t = after_vote s.gateways s.count (votes_of s) c.args.w in
     omega (arith, c.vote-progress.ensures.cached.2, line_le t, open_le t, length_after s.gateways s.count (votes_of s) c.args.w, length_table s.gateways s.memory.votes.now, s.few_slots)

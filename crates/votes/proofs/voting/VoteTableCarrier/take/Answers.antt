@@ -16,18 +16,18 @@ returns-then-place-self c =
     let e = and_right _ _ (le-ltb (get_or (take s.gateways s.places) c.args.gateway 0) (length (line_of (votes_of s))) (omega (arith, s.line_cached.2))) in
     record { answer = sym (cond-false _ _ _ e); after = sym (cond-false _ _ _ e); votes = refl }
 
-pub next-place-requires : goal.next-place-requires
-next-place-requires c = let s = c.args.self.now in omega (arith, line_fits s, s.few_slots)
+pub next_place-requires : goal.next_place-requires
+next_place-requires c = let s = c.args.self.now in omega (arith, line_fits s, s.few_slots)
 
 pub bounds-self-place : goal.bounds-self-place
 bounds-self-place c = let s = c.args.self.now in omega (arith, line_fits s, s.line_fits)
 
-pub invariant-of-self : goal.invariant-of-self
-invariant-of-self c =
+pub invariant_of-self : goal.invariant_of-self
+invariant_of-self c =
     let s = c.args.self.now in
     let g = c.args.gateway in
     let here : g < length (take s.gateways s.places) = omega (arith, s.places_long) in
-    let moved = take-set-lt s.gateways s.places g c.next-place.result c.if-g-self.false in (
+    let moved = take-set-lt s.gateways s.places g c.next_place.result c.if-g-self.false in (
       s.few_gateways,
       (
         s.small_capacity,
@@ -44,8 +44,8 @@ invariant-of-self c =
                   (
                     s.line_known,
                     (
-                      ap length moved ∙ (length-set (take s.gateways s.places) g c.next-place.result ∙ s.places_long),
-                      (subst (PlacesWithin s.gateways (line_of (votes_of s))) (sym moved) (within_set s.gateways (line_of (votes_of s)) (take s.gateways s.places) g c.next-place.result here (omega (arith, s.line_cached.2)) s.places_within), tt),
+                      ap length moved ∙ (length-set (take s.gateways s.places) g c.next_place.result ∙ s.places_long),
+                      (subst (PlacesWithin s.gateways (line_of (votes_of s))) (sym moved) (within_set s.gateways (line_of (votes_of s)) (take s.gateways s.places) g c.next_place.result here (omega (arith, s.line_cached.2)) s.places_within), tt),
                     ),
                   ),
                 ),
@@ -66,7 +66,7 @@ returns c =
       answer = sym (cond-true _ _ _ e ∙ ap (λ (n : ℕ). Some n) (ap (λ (i : ℕ). get_or (line_of (votes_of s)) i 0) p ∙ line_at s (get_or s.places g 0) c.if-place-self.false));
       after =
           ap (λ (ps : List ℕ). with_places (meaning_of s) ps)
-          (take-set-lt s.gateways s.places g c.next-place.result c.if-g-self.false ∙ ap (λ (n : ℕ). set (take s.gateways s.places) g n) (c.next-place.ensures ∙ ap (λ (n : ℕ). n + 1) (sym p)))
+          (take-set-lt s.gateways s.places g c.next_place.result c.if-g-self.false ∙ ap (λ (n : ℕ). set (take s.gateways s.places) g n) (c.next_place.ensures ∙ ap (λ (n : ℕ). n + 1) (sym p)))
           ∙ sym (cond-true _ _ _ e);
       votes = refl;
     }

@@ -7,8 +7,8 @@ use Rattle.wire.specs.Wires.{wire_meaning}
 use Rattle.wire.proofs.WireLaws.{below_push, joins_parts, pushed, stirred_one, stirred_none}
 use Rattle.wire.proofs.calls.WireCarrier.stir.Goals as goal
 
-pub invariant-of-self : goal.invariant-of-self
-invariant-of-self c =
+pub invariant_of-self : goal.invariant_of-self
+invariant_of-self c =
     let w = c.args.self.now in
     let x = c.args.w in
     let j = sym c.accepts.ensures ∙ c.if-accepts.true in
