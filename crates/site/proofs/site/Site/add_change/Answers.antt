@@ -3,8 +3,8 @@ use Rattle.std.proofs.lemmas.List.{length-set}
 use Rattle.site.proofs.KeptLaws.{each_set}
 use Rattle.site.proofs.site.Site.add_change.Goals as goal
 
-pub invariant-of-self : goal.invariant-of-self
-invariant-of-self g c =
+pub invariant_of-self : goal.invariant_of-self
+invariant_of-self g c =
     let s = c.args.self.now in
     let x = c.args.c in
     let n = s.change_count in
@@ -26,7 +26,7 @@ invariant-of-self g c =
                   (
                     s.few_settings,
                     (
-                      each_set (λ y. (y.notes ≤ 16) × (y.updates ≤ 8)) s.changes n (n + 1) n x l (c.requires.few-notes, c.requires.few-updates) among s.few_entries,
+                      each_set (λ y. (y.notes ≤ 16) × (y.updates ≤ 8)) s.changes n (n + 1) n x l (c.requires.few_notes, c.requires.few_updates) among s.few_entries,
                       (
                         each_set (λ y. y.home < s.gateway_count) s.changes n (n + 1) n x l c.requires.home_known among s.known_homes,
                         tt,

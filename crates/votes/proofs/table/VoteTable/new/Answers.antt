@@ -21,34 +21,18 @@ invariant_of-result c =
     let e = c.sizes-gateways.ensures in
     let size : length c.clear.new.votes ≡ r.2 = omega arith in
     let held : table_of r.0 c.clear.new.votes ≡ empty_table r.0 r.2 = table_empty r.0 _ r.2 c.clear.new.votes c.clear.ensures size e.few.0 in
-    let known : Known 0 (table_of r.0 c.clear.new.votes) = subst (Known 0) (sym held) (empty_known r.0 r.2) in (
-      e.few.0,
-      (
-        e.few.1,
-        (
-          omega arith,
-          (
-            omega arith,
-            (
-              zero-le,
-              (
-                known,
-                (
-                  subst (λ (t : Table). Cached t c.args.line.now 0 0) (sym held) (empty_cached r.0 r.2 c.args.line.now e.some),
-                  (
-                    line_below 0 (table_of r.0 c.clear.new.votes) known,
-                    (
-                      length-take-le r.0 (replicate 8 0) e.few.0,
-                      ((λ g h. omega (arith, ap (λ (xs : List ℕ). get_or xs g 0) (take-replicate r.0 8 0 e.few.0) ∙ get_or-replicate r.0 g 0 0 h)), tt),
-                    ),
-                  ),
-                ),
-              ),
-            ),
-          ),
-        ),
-      ),
-    )
+    let known : Known 0 (table_of r.0 c.clear.new.votes) = subst (Known 0) (sym held) (empty_known r.0 r.2) in record {
+      few_gateways = e.few.0;
+      small_capacity = e.few.1;
+      few_slots = omega arith;
+      line_fits = omega arith;
+      count_within = zero-le;
+      votes_known = known;
+      line_cached = subst (λ (t : Table). Cached t c.args.line.now 0 0) (sym held) (empty_cached r.0 r.2 c.args.line.now e.some);
+      line_known = line_below 0 (table_of r.0 c.clear.new.votes) known;
+      places_long = length-take-le r.0 (replicate 8 0) e.few.0;
+      places_within = λ g h. omega (arith, ap (λ (xs : List ℕ). get_or xs g 0) (take-replicate r.0 8 0 e.few.0) ∙ get_or-replicate r.0 g 0 0 h);
+    }
 
 pub returns : goal.returns
 returns c =

@@ -12,34 +12,18 @@ invariant_of-self c =
     let n = c.vote-progress.ensures in
     let now-held = table_of s.gateways c.vote-progress.new.memory.votes.now in
     let known : Known s.count now-held = subst (Known s.count) (sym n.votes) (known_after s.gateways s.count (votes_of s) c.args.w s.votes_known) in
-    let cached : Cached now-held c.vote-progress.new.memory.line.now c.vote-progress.result.len c.vote-progress.result.first_open = subst (λ (t : Table). Cached t c.vote-progress.new.memory.line.now c.vote-progress.result.len c.vote-progress.result.first_open) (sym n.votes) n.cached in (
-      s.few_gateways,
-      (
-        s.small_capacity,
-        (
-          omega (arith, n.slots, s.few_slots),
-          (
-            omega (arith, n.slots, n.size, s.line_fits),
-            (
-              s.count_within,
-              (
-                known,
-                (
-                  cached,
-                  (
-                    line_below s.count now-held known,
-                    (
-                      s.places_long,
-                      ((λ g h. omega (arith, s.places_within g h, s.line_cached.2, cached.2, n.longer)), tt),
-                    ),
-                  ),
-                ),
-              ),
-            ),
-          ),
-        ),
-      ),
-    )
+    let cached : Cached now-held c.vote-progress.new.memory.line.now c.vote-progress.result.len c.vote-progress.result.first_open = subst (λ (t : Table). Cached t c.vote-progress.new.memory.line.now c.vote-progress.result.len c.vote-progress.result.first_open) (sym n.votes) n.cached in record {
+      few_gateways = s.few_gateways;
+      small_capacity = s.small_capacity;
+      few_slots = omega (arith, n.slots, s.few_slots);
+      line_fits = omega (arith, n.slots, n.size, s.line_fits);
+      count_within = s.count_within;
+      votes_known = known;
+      line_cached = cached;
+      line_known = line_below s.count now-held known;
+      places_long = s.places_long;
+      places_within = λ g h. omega (arith, s.places_within g h, s.line_cached.2, cached.2, n.longer);
+    }
 
 pub overflow_cast-result : goal.overflow_cast-result
 overflow_cast-result c =

@@ -27,34 +27,18 @@ invariant_of-self c =
     let s = c.args.self.now in
     let g = c.args.gateway in
     let here : g < length (take s.gateways s.places) = omega (arith, s.places_long) in
-    let moved = take-set-lt s.gateways s.places g c.next_place.result c.if-g-self.false in (
-      s.few_gateways,
-      (
-        s.small_capacity,
-        (
-          s.few_slots,
-          (
-            s.line_fits,
-            (
-              s.count_within,
-              (
-                s.votes_known,
-                (
-                  s.line_cached,
-                  (
-                    s.line_known,
-                    (
-                      ap length moved ∙ (length-set (take s.gateways s.places) g c.next_place.result ∙ s.places_long),
-                      (subst (PlacesWithin s.gateways (line_of (votes_of s))) (sym moved) (within_set s.gateways (line_of (votes_of s)) (take s.gateways s.places) g c.next_place.result here (omega (arith, s.line_cached.2)) s.places_within), tt),
-                    ),
-                  ),
-                ),
-              ),
-            ),
-          ),
-        ),
-      ),
-    )
+    let moved = take-set-lt s.gateways s.places g c.next_place.result c.if-g-self.false in record {
+      few_gateways = s.few_gateways;
+      small_capacity = s.small_capacity;
+      few_slots = s.few_slots;
+      line_fits = s.line_fits;
+      count_within = s.count_within;
+      votes_known = s.votes_known;
+      line_cached = s.line_cached;
+      line_known = s.line_known;
+      places_long = ap length moved ∙ (length-set (take s.gateways s.places) g c.next_place.result ∙ s.places_long);
+      places_within = subst (PlacesWithin s.gateways (line_of (votes_of s))) (sym moved) (within_set s.gateways (line_of (votes_of s)) (take s.gateways s.places) g c.next_place.result here (omega (arith, s.line_cached.2)) s.places_within);
+    }
 
 pub returns : goal.returns
 returns c =

@@ -20,7 +20,18 @@ invariant_of-self c =
     let within : NoneAbove l'.len w.places = λ i. omega (arith, w.places_within_line i, p.len) in
     let room : w.limit ≤ length l'.memory.now = omega (arith, w.memory_suffices, p.room) in
     let less : l'.len ≤ w.limit = omega (arith, p.len, b.1, w.line_has_its_length) in
-    (w.gateways_have_places, (w.eight_places, (w.numbers_fit, (w.limit_fits, (room, (w.count_within_capacity, (less, (long, (below, (within, tt))))))))))
+    record {
+      gateways_have_places = w.gateways_have_places;
+      eight_places = w.eight_places;
+      numbers_fit = w.numbers_fit;
+      limit_fits = w.limit_fits;
+      memory_suffices = room;
+      count_within_capacity = w.count_within_capacity;
+      line_within_limit = less;
+      line_has_its_length = long;
+      line_below_count = below;
+      places_within_line = within;
+    }
 
 pub returns-then-accepts : goal.returns-then-accepts
 returns-then-accepts c =
