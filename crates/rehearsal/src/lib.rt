@@ -51,7 +51,7 @@ pub fn perform<C: Carrier>(
     updates: &mut [Update<Watts>],
     command: Command,
 ) -> Result<Option<i64>, Refusal>
-    ensures { Performs command site.old (meaning carrier.old) cells.now notes.old updates.old result site.new (meaning carrier.new) notes.new updates.new (carrier.new ≡ carrier.old) }
+    ensures { Performs command site.old (C.meaning carrier.old) cells.now notes.old updates.old result site.new (C.meaning carrier.new) notes.new updates.new (carrier.new ≡ carrier.old) }
 {
     match command {
         Command::Start {

@@ -106,7 +106,7 @@ mod tests {
                 value: Some(1),
             },
         );
-        assert!(rt; text.as_slice() == b"4,C,0,1,\r\n");
+        assert!(rt; text.as_slice() == b"4,C,0,1,\r\n".as_slice());
         let text = list_row(
             3,
             Listed::Served {
@@ -114,7 +114,7 @@ mod tests {
                 value: None,
             },
         );
-        assert!(rt; text.as_slice() == b"3,W,0,,\r\n");
+        assert!(rt; text.as_slice() == b"3,W,0,,\r\n".as_slice());
     }
 
     #[test]
@@ -126,7 +126,7 @@ mod tests {
                 value: Some(i64::MIN),
             },
         );
-        assert!(rt; text.as_slice() == b"18446744073709551615,P,0,-9223372036854775808,\r\n");
+        assert!(rt; text.as_slice() == b"18446744073709551615,P,0,-9223372036854775808,\r\n".as_slice());
     }
 
     #[test]
@@ -138,8 +138,8 @@ mod tests {
                 refusal: Refusal::Overwritten,
             },
         );
-        assert!(rt; text.as_slice() == b"7,R,9,,\r\n");
+        assert!(rt; text.as_slice() == b"7,R,9,,\r\n".as_slice());
         let text = list_row(0, Listed::Faulty(RowFault::HEADER));
-        assert!(rt; text.as_slice() == b"0,?,1,5,header\r\n");
+        assert!(rt; text.as_slice() == b"0,?,1,5,header\r\n".as_slice());
     }
 }

@@ -89,10 +89,10 @@ mod tests {
         line.push(b'P');
         line.push(b'\r');
         line.push(b'\r');
-        assert!(rt; line.row(End::LineFeed)? == b"P\r");
-        assert!(rt; line.row(End::Script)? == b"P\r\r");
+        assert!(rt; line.row(End::LineFeed)? == b"P\r".as_slice());
+        assert!(rt; line.row(End::Script)? == b"P\r\r".as_slice());
         line.clear();
-        assert!(rt; line.row(End::LineFeed)? == b"");
+        assert!(rt; line.row(End::LineFeed)? == b"".as_slice());
         Ok(())
     }
 

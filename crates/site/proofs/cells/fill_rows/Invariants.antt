@@ -7,5 +7,5 @@ abbrev pub invariant-loop-g : goal.invariant-loop-g
 invariant-loop-g g l =
     (l.start ≡ l.settings * l.g)
     × (l.start ≤ l.settings * l.gateways)
-    × ((k : ℕ) → k < l.g → row l.settings k l.cells ≡ map initial_cell (take l.settings l.initial))
+    × ((k : ℕ) → k < l.g → row l.settings k l.cells ≡ map initial_cell (take l.settings l.fn.initial))
     × (drop (l.settings * l.gateways) l.cells ≡ drop (l.settings * l.gateways) l.initial.cells)

@@ -12,4 +12,4 @@ returns g c =
     let xs = c.args.self.now.others.now in
     let l : length xs ≤ length xs = omega arith in
     let e = c.find.ensures ∙ ap (λ q. found g.N.Keyed.key q (take (length xs) xs)) c.key.ensures ∙ ap (found g.N.Keyed.key (g.T.Keyed.key c.args.x.now)) (take_all (length xs) xs l) in
-    opposite _ _ (ap is_some (sym e) ∙ c.is-none.ensures)
+    opposite _ _ (ap is_some (sym e) ∙ c.is_none.ensures)
