@@ -126,7 +126,9 @@ mod tests {
                 value: Some(i64::MIN),
             },
         );
-        assert!(rt; text.as_slice() == b"18446744073709551615,P,0,-9223372036854775808,\r\n".as_slice());
+        assert!(rt;
+            text.as_slice() == b"18446744073709551615,P,0,-9223372036854775808,\r\n".as_slice()
+        );
     }
 
     #[test]
