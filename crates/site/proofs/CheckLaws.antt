@@ -1,7 +1,6 @@
 -- Each call's table of refusals gives what the code asks.
-use Rattle.std.proofs.Common.{◌≡◌, ℕ, ◌*◌, Bool, false, not, ◌||◌, eqb, ltb, leb, List, [], ◌∷◌, ◌++◌, length, Option, sym, refl, ap, ◌∙◌}
+use Rattle.std.proofs.Common.{◌≡◌, ℕ, ◌*◌, false, not, ◌||◌, eqb, ltb, leb, List, [], ◌∷◌, ◌++◌, length, refl, ap, ◌∙◌}
 use Rattle.std.proofs.lemmas.Bool.{leb-false}
-use Rattle.base.specs.declared.refusal.Refusal.{Refusal}
 use Rattle.base.specs.declared.refusal.Refusal.TheVariants.{Full}
 use Rattle.base.specs.Refusals.{Checks, first}
 use Rattle.carrier.specs.Meaning.{Meaning}

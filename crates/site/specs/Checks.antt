@@ -1,6 +1,6 @@
 -- The tables of refusals once more, over the fields of the site's record and the lengths of what it is lent: what the
 -- code asks. That they give what the calls' own tables give is proved.
-use Rattle.std.specs.Prelude.{ℕ, ◌+◌, ◌*◌, Bool, cond, not, ◌&&◌, ◌||◌, List, [], ◌∷◌, Some, None, Ok, Err, Option, Result, ◌==◌, nat_le, nat_lt, slice_index_or}
+use Rattle.std.specs.Prelude.{ℕ, ◌+◌, ◌*◌, Bool, cond, not, ◌&&◌, ◌||◌, [], ◌∷◌, Some, None, Ok, Err, Option, Result, ◌==◌, nat_le, nat_lt, slice_index_or}
 use Rattle.base.specs.declared.refusal.Refusal.{Refusal}
 use Rattle.base.specs.declared.refusal.Refusal.TheVariants.{Limits, Carrier, UnknownGateway, UnknownChange, UnknownSetting, NoChangeLeft, NotOpen, Overwritten, Full}
 use Rattle.base.specs.Refusals.{Checks, first}

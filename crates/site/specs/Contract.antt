@@ -8,7 +8,6 @@ use Rattle.protocol.specs.declared.records.Note.{Note}
 use Rattle.protocol.specs.declared.records.Update.{Update}
 use Rattle.protocol.specs.declared.records.Cell.{Cell}
 use Rattle.protocol.specs.Calls.{new_refused, started, open_refused, after_open, read_refused, read_value, after_read, write_refused, after_write, submit_refused, updates_left, after_submit, abandon_refused, after_abandon, stir_refused, look_refused, look_value}
-use Rattle.protocol.specs.View.{View}
 use Rattle.site.specs.declared.site.Site.{Site}
 use Rattle.site.specs.Tables.{view}
 

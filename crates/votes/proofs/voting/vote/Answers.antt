@@ -1,5 +1,5 @@
 use Rattle.std.proofs.Common.{length, sym, refl, ap, ◌∙◌, subst, arith}
-use Rattle.votes.specs.Tables.{Table, slot_of}
+use Rattle.votes.specs.Tables.{Table}
 use Rattle.votes.specs.Kept.{table_of, Written, Cached}
 use Rattle.votes.proofs.Growing.{line_le, open_le, written_after, cached_after}
 use Rattle.votes.proofs.Memory.{length_table}

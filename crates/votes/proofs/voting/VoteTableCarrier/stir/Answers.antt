@@ -1,4 +1,4 @@
-use Rattle.std.proofs.Common.{◌-◌, [], ◌∷◌, length, take, sym, refl, ap, ◌∙◌, subst, arith}
+use Rattle.std.proofs.Common.{[], ◌∷◌, length, take, sym, refl, ap, ◌∙◌, subst, arith}
 use Rattle.votes.specs.Tables.{Table, line_of, after_vote}
 use Rattle.votes.specs.Kept.{table_of, Known, Cached}
 use Rattle.votes.specs.Means.{votes_of}
