@@ -1,7 +1,7 @@
 -- The histories of the examples, each answer by computing.
 use Rattle.std.proofs.Common.{◌≡◌, ℕ, ◌<◌, ◌≤◌, eqb, List, [], ◌∷◌, ◌++◌, length, Some, None, Ok, Err, Option, sym, refl, subst, lit<, lit≤}
 use Rattle.std.proofs.ByRecursion.{All-get_or}
-use Rattle.std.specs.List.{AllByRecursion as All}
+use Rattle.std.specs.List.{AllByRecursion}
 use Rattle.base.specs.declared.refusal.Refusal.TheVariants.{NotLeading, AlreadyDecided}
 use Rattle.carrier.specs.Meaning.{Meaning, Sound}
 use Rattle.protocol.specs.declared.answers.Delivery.TheVariants as delivery
@@ -20,7 +20,7 @@ use Rattle.protocol.specs.Deliver.{deliver_refused, delivered, after_deliver}
 use Rattle.runs.specs.Runs.{World, stirs, delivers, elects, recalls, certifies, History, Reached, ServedNew, by_open, by_read, by_write, by_submit, by_elect, by_recall, by_certify, by_stir, by_deliver, by_look, new, then}
 use Rattle.runs.specs.Examples.{two_shares, Happens, two_raises, dropped_off_late, dropped_off_early, taken_over}
 
-sound_from : (m : Meaning) → All (λ n. n < m.count) m.line → All (λ p. p ≤ length m.line) m.places → length m.places ≡ m.gateways → Sound m
+sound_from : (m : Meaning) → AllByRecursion (λ n. n < m.count) m.line → AllByRecursion (λ p. p ≤ length m.line) m.places → length m.places ≡ m.gateways → Sound m
 sound_from m a b e =
     record {
       line_below_count = λ i l. All-get_or (λ n. n < m.count) m.line i 0 l a;

@@ -3,7 +3,7 @@ use Rattle.std.proofs.Common.{◌≡◌, ℕ, ◌<◌, ◌≤◌, Bool, true, fa
 use Rattle.std.proofs.lemmas.List.{append-nil, get_or_push, same_from_push}
 use Rattle.std.proofs.ByRecursion.{All-weaker}
 use Rattle.std.proofs.lemmas.Bool.{cases_lt, eq-eqb, both_ways, or_parts}
-use Rattle.std.specs.List.{AllByRecursion as All}
+use Rattle.std.specs.List.{AllByRecursion}
 use Rattle.protocol.specs.declared.answers.Certified.{Certified}
 use Rattle.protocol.specs.declared.answers.Delivery.{Delivery}
 use Rattle.protocol.specs.declared.answers.Delivery.TheVariants.{Nothing, Discard}
@@ -98,7 +98,7 @@ module _ {V : Type 0} where
       numbered : c.number ≡ length (messages h)
       reigning : InReign h g
       was_sent : was_submitted h k ≡ true
-      first_time : All (ForAnother h k) reigning.0.certified
+      first_time : AllByRecursion (ForAnother h k) reigning.0.certified
 
     record RightlyDelivered (h : History V) (g : ℕ) (d : Delivery) : Type 0 where
       certain : (n : ℕ) → applied_message (Some d) ≡ n ∷ [] → WasCertified h n
@@ -140,7 +140,7 @@ module _ {V : Type 0} where
       v = w.site
 
       -- of messages that do not decide a change, each is for another
-      all_others : (k : ℕ) (p : List ℕ) → decides v k p ≡ false → All (λ n. eqb (message_at v n).change k ≡ false) p
+      all_others : (k : ℕ) (p : List ℕ) → decides v k p ≡ false → AllByRecursion (λ n. eqb (message_at v n).change k ≡ false) p
       all_others k [] e = tt
       all_others k (n ∷ p) e = let parts = or_parts (eqb (message_at v n).change k) (decides v k p) e in (parts.0, all_others k p parts.1)
 
@@ -174,7 +174,7 @@ module _ {V : Type 0} where
       tip_said g = ap last (q.applied_said g) ∙ last_path v.messages (gateway_at v g).tip
 
       in_reign : (g : ℕ) (o : Option ℕ) → Leads h v.messages g o → InReign h g
-      in_reign g o l = (l.now, l.reigning, subst (λ z. All (λ n. has (path z l.now.initial ++ l.now.certified) n ≡ true) l.now.applied) r.messages_said (subst (λ z. All (λ n. has z n ≡ true) l.now.applied) l.history_said l.applied_own))
+      in_reign g o l = (l.now, l.reigning, subst (λ z. AllByRecursion (λ n. has (path z l.now.initial ++ l.now.certified) n ≡ true) l.now.applied) r.messages_said (subst (λ z. AllByRecursion (λ n. has z n ≡ true) l.now.applied) l.history_said l.applied_own))
 
       promised_certify : (g k : ℕ) (c : Certified) → c.number ≡ length v.messages → Leads h v.messages g (head (gateway_at v g).role) → decides v k (history v g) ≡ false → was_submitted h k ≡ true → RightlyCertified h g k c
       unfolding in_reign
@@ -184,7 +184,7 @@ module _ {V : Type 0} where
             reigning = in_reign g (head (gateway_at v g).role) l;
             was_sent = su;
             first_time = All-weaker (λ n. eqb (message_at v n).change k ≡ false) (ForAnother h k) (λ n. other_said k n) l.now.certified
-                (all_right (λ n. eqb (message_at v n).change k ≡ false) (path v.messages l.now.initial) l.now.certified (subst (All (λ n. eqb (message_at v n).change k ≡ false)) l.history_said (all_others k (history v g) nd)));
+                (all_right (λ n. eqb (message_at v n).change k ≡ false) (path v.messages l.now.initial) l.now.certified (subst (AllByRecursion (λ n. eqb (message_at v n).change k ≡ false)) l.history_said (all_others k (history v g) nd)));
           }
 
       -- an answer, as the history has the decision and the home
@@ -249,7 +249,7 @@ module _ {V : Type 0} where
         let known : n < length ms = (change_said h w i q r n y f).0 in
         let before = path_before ms (earlier ++ (m ∷ between)) n (gateway_at w.site g).tip later p in
         let others = all_others h w i q r (message_at w.site n).change (path ms (prior ms n)) (i.messages n known).not_decided in
-        let here = (all_right (λ j. eqb (message_at w.site j).change (message_at w.site n).change ≡ false) earlier (m ∷ between) (subst (All (λ j. eqb (message_at w.site j).change (message_at w.site n).change ≡ false)) (sym before) others)).0 in
+        let here = (all_right (λ j. eqb (message_at w.site j).change (message_at w.site n).change ≡ false) earlier (m ∷ between) (subst (AllByRecursion (λ j. eqb (message_at w.site j).change (message_at w.site n).change ≡ false)) (sym before) others)).0 in
         both_ways _ here (eq-eqb _ _ ((change_said h w i q r m x d).1 ∙ sym c ∙ sym (change_said h w i q r n y f).1))
 
     pub broadcast : (h : History V) (w : World V) → Reached alike b h w → Broadcast h w
@@ -266,7 +266,7 @@ module _ {V : Type 0} where
           leader_validity = λ before g k c n. (promised r before n.0 (certifies g k (Ok c)) n.1).was_sent;
           leader_validity_once = λ before g k c x n e.
               (let p = promised r before n.0 (certifies g k (Ok c)) n.1 in
-              subst (λ (z : Reign). All (ForAnother before k) z.certified) (some_same p.reigning.0 x (sym p.reigning.1 ∙ e)) p.first_time);
+              subst (λ (z : Reign). AllByRecursion (ForAnother before k) z.certified) (some_same p.reigning.0 x (sym p.reigning.1 ∙ e)) p.first_time);
           order = λ before g n d x e. (promised r before x.0 (delivers g (Ok d)) x.1).in_order n e;
           order_only = λ before g n x e. (promised r before x.0 (delivers g (Ok (Discard n))) x.1).out_of_order n refl e;
         }

@@ -3,7 +3,7 @@ use Rattle.std.proofs.Common.{◌≡◌, ℕ, ◌<◌, ◌≤◌, Bool, true, fa
 use Rattle.std.proofs.lemmas.List.{append-nil, length_push}
 use Rattle.std.proofs.ByRecursion.{All-append, All-weaker}
 use Rattle.std.proofs.lemmas.Bool.{cases_Bool, eq-eqb, ne_eqb, both_ways, or_left, or_right}
-use Rattle.std.specs.List.{AllByRecursion as All}
+use Rattle.std.specs.List.{AllByRecursion}
 use Rattle.protocol.specs.declared.answers.Certified.{Certified}
 use Rattle.protocol.specs.declared.answers.Delivery.{Delivery}
 use Rattle.protocol.specs.declared.records.Message.{Message}
@@ -83,7 +83,7 @@ module _ {V : Type 0} where
     pub head_said : history_end (Some now) ≡ o
     pub initial_known : bound now.initial ≤ length ms
     pub history_said : path ms o ≡ path ms now.initial ++ now.certified
-    pub applied_own : All (λ n. has (path ms o) n ≡ true) now.applied
+    pub applied_own : AllByRecursion (λ n. has (path ms o) n ≡ true) now.applied
 
   pub record Reigns (h : History V) (v : View V) : Type 0 where
     pub messages_said : v.messages ≡ messages h
@@ -109,7 +109,7 @@ module _ {V : Type 0} where
       }
 
   -- a delivery adds to each reign what its gateway applied
-  leads_applied : (h : History V) (i : ℕ) (d : Delivery) (ms : List Message) (g : ℕ) (o : Option ℕ) → All (λ n. has (path ms o) n ≡ true) (applied_message (when (eqb i g) (Some d))) → Leads h ms g o → Leads (h ++ (delivers i (Ok d) ∷ [])) ms g o
+  leads_applied : (h : History V) (i : ℕ) (d : Delivery) (ms : List Message) (g : ℕ) (o : Option ℕ) → AllByRecursion (λ n. has (path ms o) n ≡ true) (applied_message (when (eqb i g) (Some d))) → Leads h ms g o → Leads (h ++ (delivers i (Ok d) ∷ [])) ms g o
   leads_applied h i d ms g o a r =
       let p = applied_message (when (eqb i g) (Some d)) in
       record {
@@ -125,7 +125,7 @@ module _ {V : Type 0} where
   reigns_delivered h i d v q r =
       record {
         messages_said = r.messages_said ∙ sym (messages_push h (delivers i (Ok d)) ∙ append-nil (messages h));
-        leaders_said = λ g o e. leads_applied h i d v.messages g o (subst (All (λ n. has (path v.messages o) n ≡ true)) (sym (none (eqb i g))) tt) (r.leaders_said g o e);
+        leaders_said = λ g o e. leads_applied h i d v.messages g o (subst (AllByRecursion (λ n. has (path v.messages o) n ≡ true)) (sym (none (eqb i g))) tt) (r.leaders_said g o e);
       }
     where
       none : (t : Bool) → applied_message (when t (Some d)) ≡ []
@@ -202,7 +202,7 @@ module _ {V : Type 0} where
               head_said = t.head_said;
               initial_known = (let z = t.initial_known in omega arith);
               history_said = path_extends ms (m ∷ []) p kp ∙ t.history_said ∙ ap (λ z. z ++ t.now.certified) (sym (path_extends ms (m ∷ []) t.now.initial t.initial_known));
-              applied_own = subst (λ a. All (λ z. has a z ≡ true) t.now.applied) (sym (path_extends ms (m ∷ []) p kp)) t.applied_own;
+              applied_own = subst (λ a. AllByRecursion (λ z. has a z ≡ true) t.now.applied) (sym (path_extends ms (m ∷ []) p kp)) t.applied_own;
             }));
       }
 
@@ -225,6 +225,6 @@ module _ {V : Type 0} where
             each_after_set v.gateways g (advanced v g n) no_gateway (λ j y. (p : Option ℕ) → y.role ≡ Leader p → Leads (h ++ (e ∷ [])) v.messages j p) l
             (λ p q.
             (let s = still_leads v n (gateway_at v g).role p q in
-            leads_applied h g d v.messages g p (subst (All (λ z. has (path v.messages p) z ≡ true)) (sym (ap (λ z. applied_message (when z (Some d))) (eq-eqb g g refl) ∙ reported (message_at v n).outcome (is_home v g n) n)) (s.1, tt)) (r.leaders_said g p s.0)))
-            (λ j ne p q. leads_applied h g d v.messages j p (subst (All (λ z. has (path v.messages p) z ≡ true)) (sym (ap (λ z. applied_message (when z (Some d))) (ne_eqb g j (λ z. ne (sym z))))) tt) (r.leaders_said j p q));
+            leads_applied h g d v.messages g p (subst (AllByRecursion (λ z. has (path v.messages p) z ≡ true)) (sym (ap (λ z. applied_message (when z (Some d))) (eq-eqb g g refl) ∙ reported (message_at v n).outcome (is_home v g n) n)) (s.1, tt)) (r.leaders_said g p s.0)))
+            (λ j ne p q. leads_applied h g d v.messages j p (subst (AllByRecursion (λ z. has (path v.messages p) z ≡ true)) (sym (ap (λ z. applied_message (when z (Some d))) (ne_eqb g j (λ z. ne (sym z))))) tt) (r.leaders_said j p q));
       }

@@ -3,7 +3,7 @@ use Rattle.std.proofs.Common.{◌≡◌, ℕ, ◌+◌, ◌<◌, ◌≤◌, Bool,
 use Rattle.std.proofs.lemmas.List.{set-get_or}
 use Rattle.std.proofs.lemmas.List.Prefix.{front_rest}
 use Rattle.std.proofs.lemmas.Bool.{not-false, eqb-true, cond-true, cond-false, cases_Bool, both_ways, or_parts, ltb-false, leb-false}
-use Rattle.std.specs.List.{AllByRecursion as All}
+use Rattle.std.specs.List.{AllByRecursion}
 use Rattle.base.specs.declared.refusal.Refusal.{Refusal}
 use Rattle.base.specs.Refusals.{Checks, first, answered, left, told}
 use Rattle.carrier.specs.Meaning.{Meaning, Sound, Stirred, with_count, with_places, full, after_offer, waits, taken, after_take}
@@ -63,7 +63,7 @@ pub data Served {V : Type 0} (alike : V → V → Bool) (w : World V) : Entry V 
   looks_up : (g s : ℕ) (x : V) → Served alike w (looks g s (Ok x)) w
 
 -- where a call is not refused, none of its conditions holds
-pub none_holds : (cs : Checks) → first cs ≡ None → All (λ c. c.0 ≡ false) cs
+pub none_holds : (cs : Checks) → first cs ≡ None → AllByRecursion (λ c. c.0 ≡ false) cs
 none_holds [] e = tt
 none_holds (c ∷ cs) e =
     elim (cases_Bool c.0) [

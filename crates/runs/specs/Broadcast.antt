@@ -1,6 +1,6 @@
 -- What the broadcast promises, over histories: its safety clauses by their usual names.
 use Rattle.std.specs.Prelude.{◌≡◌, ℕ, ◌<◌, Bool, true, cond, List, [], ◌∷◌, ◌++◌, length, Some, None, Ok, Err, Option, ◌==◌, ◌≢◌, slice_index_or}
-use Rattle.std.specs.List.{AllByRecursion as All}
+use Rattle.std.specs.List.{AllByRecursion}
 use Rattle.protocol.specs.declared.answers.Certified.{Certified}
 use Rattle.protocol.specs.declared.answers.Delivery.{Delivery}
 use Rattle.protocol.specs.declared.answers.Delivery.TheVariants.{Discard}
@@ -99,7 +99,7 @@ Next {V} h before e = (later : History V) × (h ≡ before ++ (e ∷ later))
 
 -- gateway g is in a reign, in which it applied nothing but its initial history and what it certified
 abbrev pub InReign : {V : Type 0} → History V → ℕ → Type 0
-InReign h g = (r : Reign) × (reign h g ≡ Some r) × All (λ n. has (path (messages h) r.initial ++ r.certified) n ≡ true) r.applied
+InReign h g = (r : Reign) × (reign h g ≡ Some r) × AllByRecursion (λ n. has (path (messages h) r.initial ++ r.certified) n ≡ true) r.applied
 
 -- some leader certified message n
 abbrev pub WasCertified : {V : Type 0} → History V → ℕ → Type 0
@@ -131,7 +131,7 @@ pub record Broadcast {V : Type 0} (h : History V) (w : World V) : Type 0 where
   -- a leader certifies only what was submitted
   pub leader_validity : (before : History V) (g k : ℕ) (c : Certified) → Next h before (certifies g k (Ok c)) → was_submitted before k ≡ true
   -- a leader certifies each change at most once in a reign
-  pub leader_validity_once : (before : History V) (g k : ℕ) (c : Certified) (r : Reign) → Next h before (certifies g k (Ok c)) → reign before g ≡ Some r → All (ForAnother before k) r.certified
+  pub leader_validity_once : (before : History V) (g k : ℕ) (c : Certified) (r : Reign) → Next h before (certifies g k (Ok c)) → reign before g ≡ Some r → AllByRecursion (ForAnother before k) r.certified
   -- a message that is applied has the gateway's last applied message for its precedent
   pub order : (before : History V) (g n : ℕ) (d : Delivery) → Next h before (delivers g (Ok d)) → applied_message (Some d) ≡ n ∷ [] → prior (messages before) n ≡ last (applied before g)
   -- a message that is discarded has another

@@ -1,6 +1,6 @@
 -- One more vote in the table, and how the line grows.
 use Rattle.std.proofs.Common.{◌≡◌, ℕ, zero, suc, ◌+◌, ◌<◌, ◌≤◌, Bool, true, false, cond, not, ◌&&◌, ltb, ◌≢◌, List, [], ◌∷◌, ◌++◌, length, get_or, take, drop, set, is_some, Some, None, count_by, Option, sym, refl, ap, ◌∙◌, subst, ⊎_elim, append_assoc, suc-le-suc, zero-le, not-suc-le-zero, zero-add, one-add, arith}
-use Rattle.std.specs.List.{AllByRecursion as All}
+use Rattle.std.specs.List.{AllByRecursion}
 use Rattle.std.proofs.lemmas.List.{get_or-set_same, get_or-set_other, length-set, length-take-le, append-nil, at_drop_more, at_drop_all, take_at, take_more_set, length-replicate}
 use Rattle.std.proofs.ByRecursion.{All-get_or}
 use Rattle.std.proofs.lemmas.List.Sums.{prefix_len-drop_yes as leading-drop-yes, prefix_len-drop_no, prefix_len-drop_all, prefix_len-le-length}
@@ -199,12 +199,12 @@ winner_known count vs [] n h e = let z : ◌≡◌ {A = ℕ} 0 1 = cc in omega a
 winner_known count vs (v ∷ more) n h e =
     ⊎_elim (λ b. ltb-true n count (subst (λ (x : Option ℕ). is_known count x ≡ true) (sym (cond-true _ _ _ b) ∙ e) (h 0))) (λ b. winner_known count vs more n (λ j. h (suc j)) (sym (cond-false _ _ _ b) ∙ e)) (cases_Bool (wins vs v))
 
-from_known : (count : ℕ) (o : Option ℕ) (b : Bool) (xs : List ℕ) → ((n : ℕ) → o ≡ Some n → n < count) → All (λ (n : ℕ). n < count) xs → All (λ (n : ℕ). n < count) (line_from (outcome_by o b) xs)
+from_known : (count : ℕ) (o : Option ℕ) (b : Bool) (xs : List ℕ) → ((n : ℕ) → o ≡ Some n → n < count) → AllByRecursion (λ (n : ℕ). n < count) xs → AllByRecursion (λ (n : ℕ). n < count) (line_from (outcome_by o b) xs)
 from_known count (Some n) b xs h low = (h n refl, low)
 from_known count None true xs h low = low
 from_known count None false xs h low = tt
 
-line_known : (count : ℕ) (t : Table) → Known count t → All (λ (n : ℕ). n < count) (line_of t)
+line_known : (count : ℕ) (t : Table) → Known count t → AllByRecursion (λ (n : ℕ). n < count) (line_of t)
 line_known count [] h = tt
 line_known count (vs ∷ t) h = from_known count (locked vs) (closed vs) (line_of t) (λ n e. winner_known count vs vs n (h 0) e) (line_known count t (λ k. h (suc k)))
 
