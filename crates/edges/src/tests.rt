@@ -2,7 +2,7 @@ use base::refusal::Refusal;
 use base::watts::Watts;
 use protocol::records::{Cell, Note, Update};
 use site::Site;
-use std::process::Abort;
+use std::fmt::Debug;
 use std::test::Fail;
 use wire::Wire;
 
@@ -92,27 +92,36 @@ fn write_settings(
     Ok(())
 }
 
+// Fails where the answer is not the wanted one.
+fn check_eq<T: PartialEq + Debug + Drop>(answer: T, wanted: T) -> Result<(), Fail> {
+    if answer == wanted {
+        return Ok(());
+    }
+    Err(Fail::new(format_args!("{answer:?} in place of {wanted:?}")))
+}
+
 // Reads so many settings, which hold their initial values.
 fn read_settings(
-    rt: &impl Abort,
     site: &mut Site<Watts>,
     cells: &[Cell<Watts>],
     notes: &mut [Note<Watts>],
     updates: &[Update<Watts>],
     change: u32,
     count: u32,
-) {
+) -> Result<(), Fail> {
     for setting in 0..count {
-        assert_eq!(rt;
+        check_eq(
             site.read(cells, notes, updates, change, setting),
-            Ok(first(setting))
-        );
+            Ok(first(setting)),
+        )?;
     }
+    Ok(())
 }
 
 // Opens so many changes at gateway 0, numbered from 0.
-fn open_changes(rt: &impl Abort, site: &mut Site<Watts>, count: u32) {
+fn open_changes(site: &mut Site<Watts>, count: u32) -> Result<(), Fail> {
     for number in 0..count {
-        assert_eq!(rt; site.open(0), Ok(number));
+        check_eq(site.open(0), Ok(number))?;
     }
+    Ok(())
 }

@@ -297,7 +297,6 @@ impl<'a> Carrier for VoteTable<'a> {
 #[cfg(test)]
 mod tests {
     use super::*;
-    use std::process::Abort;
 
     // A vote in one word.
     fn word(number: u32, slot: u32, gateway: u32) -> u32 {
@@ -318,20 +317,21 @@ mod tests {
         check(gateways, capacity, slots, votes, line).is_ok()
     }
 
-    fn limits(rt: &impl Abort, votes: &[Slot], line: &[u16]) {
-        assert_eq!(rt; passes(1, 1, 1, votes, line), true);
-        assert_eq!(rt; passes(8, 1024, 1024, votes, line), true);
-        assert_eq!(rt; passes(0, 1, 1, votes, line), false);
-        assert_eq!(rt; passes(9, 1, 1, votes, line), false);
-        assert_eq!(rt; passes(1, 0, 1, votes, line), false);
-        assert_eq!(rt; passes(1, 1025, 1, votes, line), false);
-        assert_eq!(rt; passes(1, 1, 0, votes, line), false);
-        assert_eq!(rt; passes(1, 1, 1025, votes, line), false);
+    // Whether `check` passes each number at both ends of its limits, and not one past an end.
+    fn limits(votes: &[Slot], line: &[u16]) -> bool {
+        passes(1, 1, 1, votes, line)
+            && passes(8, 1024, 1024, votes, line)
+            && !passes(0, 1, 1, votes, line)
+            && !passes(9, 1, 1, votes, line)
+            && !passes(1, 0, 1, votes, line)
+            && !passes(1, 1025, 1, votes, line)
+            && !passes(1, 1, 0, votes, line)
+            && !passes(1, 1, 1025, votes, line)
     }
 
     #[test]
     fn limits_at_their_ends(rt: HostRuntime) {
-        limits(&rt, &[Slot::EMPTY; 1024], &[0; 1024]);
+        assert!(rt; limits(&[Slot::EMPTY; 1024], &[0; 1024]));
     }
 
     #[test]

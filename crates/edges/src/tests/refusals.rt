@@ -1,5 +1,4 @@
 use super::*;
-use std::process::Abort;
 
 #[test]
 fn each_refusal_has_its_number(rt: HostRuntime) {
@@ -48,7 +47,7 @@ fn an_unknown_change_is_refused_before_an_unknown_setting(rt: HostRuntime) -> Re
     let mut notes = [NOTE; 16];
     let updates = [UPDATE; 8];
     let mut site = started(1, 1, 1, &mut cells)?;
-    open_changes(&rt, &mut site, 1);
+    open_changes(&mut site, 1)?;
     let change = Err(Refusal::UnknownChange);
     let setting = Err(Refusal::UnknownSetting);
     let limits = Err(Refusal::Limits);
@@ -72,7 +71,7 @@ fn write_refuses_in_the_same_order(rt: HostRuntime) -> Result<(), Fail> {
     let mut updates = [UPDATE; 8];
     let mut few = [UPDATE; 7];
     let mut site = started(1, 1, 1, &mut cells)?;
-    open_changes(&rt, &mut site, 1);
+    open_changes(&mut site, 1)?;
     let change = Err(Refusal::UnknownChange);
     let setting = Err(Refusal::UnknownSetting);
     assert_eq!(rt; site.write(&mut updates, 1, 1, Watts(1)), change);
@@ -89,7 +88,7 @@ fn submit_and_abandon_refuse_an_unknown_change(rt: HostRuntime) -> Result<(), Fa
     let notes = [NOTE; 16];
     let mut updates = [UPDATE; 8];
     let mut site = started(1, 1, 1, &mut cells)?;
-    open_changes(&rt, &mut site, 1);
+    open_changes(&mut site, 1)?;
     let unknown = Err(Refusal::UnknownChange);
     assert_eq!(rt; site.submit(&notes, &mut updates, 1), unknown);
     assert_eq!(rt; site.submit(&notes, &mut updates, u32::MAX), unknown);
@@ -116,23 +115,22 @@ fn the_last_change_opens_and_one_more_does_not(rt: HostRuntime) -> Result<(), Fa
 // Whether every call on the change is refused since it is not open, a write to a ninth setting too; an unknown setting is
 // refused first.
 fn is_closed(
-    rt: &impl Abort,
     site: &mut Site<Watts>,
     cells: &[Cell<Watts>],
     notes: &mut [Note<Watts>],
     updates: &mut [Update<Watts>],
     change: u32,
-) {
+) -> Result<(), Fail> {
     let setting = Err(Refusal::UnknownSetting);
-    assert_eq!(rt; site.read(cells, notes, updates, change, 9), setting);
+    check_eq(site.read(cells, notes, updates, change, 9), setting)?;
     let closed = Err(Refusal::NotOpen);
-    assert_eq!(rt; site.read(cells, notes, updates, change, 0), closed);
+    check_eq(site.read(cells, notes, updates, change, 0), closed)?;
     let setting = Err(Refusal::UnknownSetting);
-    assert_eq!(rt; site.write(updates, change, 9, Watts(1)), setting);
+    check_eq(site.write(updates, change, 9, Watts(1)), setting)?;
     let closed = Err(Refusal::NotOpen);
-    assert_eq!(rt; site.write(updates, change, 8, Watts(1)), closed);
-    assert_eq!(rt; site.submit(notes, updates, change), Err(Refusal::NotOpen));
-    assert_eq!(rt; site.abandon(change), Err(Refusal::NotOpen));
+    check_eq(site.write(updates, change, 8, Watts(1)), closed)?;
+    check_eq(site.submit(notes, updates, change), Err(Refusal::NotOpen))?;
+    check_eq(site.abandon(change), Err(Refusal::NotOpen))
 }
 
 #[test]
@@ -141,12 +139,12 @@ fn a_submitted_and_an_abandoned_change_are_closed(rt: HostRuntime) -> Result<(),
     let mut notes = [NOTE; 32];
     let mut updates = [UPDATE; 16];
     let mut site = started(1, 9, 2, &mut cells)?;
-    open_changes(&rt, &mut site, 2);
+    open_changes(&mut site, 2)?;
     write_settings(&mut site, &mut updates, 0, 8)?;
     assert_eq!(rt; site.submit(&notes, &mut updates, 0), Ok(8));
-    is_closed(&rt, &mut site, &cells, &mut notes, &mut updates, 0);
+    is_closed(&mut site, &cells, &mut notes, &mut updates, 0)?;
     assert_eq!(rt; site.abandon(1), Ok(()));
-    is_closed(&rt, &mut site, &cells, &mut notes, &mut updates, 1);
+    is_closed(&mut site, &cells, &mut notes, &mut updates, 1)?;
     Ok(())
 }
 
@@ -156,8 +154,8 @@ fn an_overwritten_cell_is_refused_before_a_full_row(rt: HostRuntime) -> Result<(
     let mut notes = [NOTE; 16];
     let updates = [UPDATE; 8];
     let mut site = started(1, 17, 1, &mut cells)?;
-    open_changes(&rt, &mut site, 1);
-    read_settings(&rt, &mut site, &cells, &mut notes, &updates, 0, 16);
+    open_changes(&mut site, 1)?;
+    read_settings(&mut site, &cells, &mut notes, &updates, 0, 16)?;
     cells[16].depth = 1;
     let overwritten = Err(Refusal::Overwritten);
     assert_eq!(rt; site.read(&cells, &mut notes, &updates, 0, 16), overwritten);

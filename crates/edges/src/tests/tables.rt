@@ -17,7 +17,7 @@ fn a_table_one_element_short_is_refused_by_read(rt: HostRuntime) -> Result<(), F
     let mut few = [NOTE; 31];
     let updates = [UPDATE; 16];
     let mut site = started(2, 3, 2, &mut cells)?;
-    open_changes(&rt, &mut site, 1);
+    open_changes(&mut site, 1)?;
     let short = Err(Refusal::Limits);
     assert_eq!(rt; site.read(&cells[0..5], &mut notes, &updates, 0, 0), short);
     assert_eq!(rt; site.read(&cells, &mut few, &updates, 0, 0), short);
@@ -33,7 +33,7 @@ fn a_table_one_element_short_is_refused_by_write_and_submit(rt: HostRuntime) -> 
     let mut updates = [UPDATE; 16];
     let mut few = [UPDATE; 15];
     let mut site = started(2, 3, 2, &mut cells)?;
-    open_changes(&rt, &mut site, 1);
+    open_changes(&mut site, 1)?;
     let unwritten = Err(Refusal::Limits);
     assert_eq!(rt; site.write(&mut few, 0, 0, Watts(1)), unwritten);
     assert_eq!(rt; site.write(&mut updates, 0, 0, Watts(1)), Ok(()));
@@ -60,9 +60,9 @@ fn the_last_row_of_the_greatest_tables_is_read_and_written(rt: HostRuntime) -> R
     let mut notes = [NOTE; 4096];
     let mut updates = [UPDATE; 2048];
     let mut site = started(1, 1, 256, &mut cells)?;
-    open_changes(&rt, &mut site, 256);
+    open_changes(&mut site, 256)?;
     assert_eq!(rt; site.open(0), Err(Refusal::NoChangeLeft));
-    read_settings(&rt, &mut site, &cells, &mut notes, &updates, 255, 1);
+    read_settings(&mut site, &cells, &mut notes, &updates, 255, 1)?;
     write_settings(&mut site, &mut updates, 255, 1)?;
     assert_eq!(rt; site.submit(&notes, &mut updates, 255), Ok(1));
     Ok(())
