@@ -1,103 +1,45 @@
 -- The laws of the bounded list.
-use Rattle.std.proofs.Common.{◌≡◌, ℕ, suc, ◌+◌, ◌<◌, ◌≤◌, min, Bool, true, false, cond, eqb, ltb, List, [], ◌∷◌, ◌++◌, length, get_or, take, drop, set, Some, None, filter, Option, sym, refl, ap, ◌∙◌, ⊎_elim, arith, MatchOption}
+use Rattle.std.proofs.Common.{◌≡◌, ℕ, suc, ◌+◌, ◌<◌, ◌≤◌, min, Bool, true, false, cond, not, eqb, List, [], ◌∷◌, ◌++◌, length, get_or, take, drop, set, Some, None, filter, find, option_map, Option, sym, refl, ap, ◌∙◌, ⊎_elim, arith, MatchOption}
 use lib.Seq.{take-set-lt}
-use Rattle.std.proofs.lemmas.Bool.{lt-ltb, le-ltb, eq-eqb, ne_eqb, eqb-true, and_from, cond-true, cond-false, cond_both, cases_lt, cases_Bool}
-use Rattle.std.proofs.lemmas.List.Filters.{FiltersInPlace}
-use Rattle.std.proofs.lemmas.List.{length-take-le, get_or-take, at_drop_more, at_drop_all, length-set, length-take, length_push, take_all, take_more_set, drop_all, drop-set-lt}
-use Rattle.base.specs.Lists.{place, found, lookup, put_in, appended, after_append, after_replace, Written, Stored, Put}
-
--- a count past the memory's end stands for the memory's length
-pub take_min : {X : Type 0} (n : ℕ) (xs : List X) → take (min n (length xs)) xs ≡ take n xs
-take_min n xs =
-    ⊎_elim (λ l. let e : min n (length xs) ≡ n = omega arith in rw e)
-    (λ l. let e : min n (length xs) ≡ length xs = omega arith in let r : length xs ≤ length xs = omega arith in rw e (take_all (length xs) xs r ∙ sym (take_all n xs l)))
-    (cases_lt n (length xs))
-
-pub drop_min : {X : Type 0} (n : ℕ) (xs : List X) → drop (min n (length xs)) xs ≡ drop n xs
-drop_min n xs =
-    ⊎_elim (λ l. let e : min n (length xs) ≡ n = omega arith in rw e)
-    (λ l. let e : min n (length xs) ≡ length xs = omega arith in let r : length xs ≤ length xs = omega arith in rw e (drop_all (length xs) xs r ∙ sym (drop_all n xs l)))
-    (cases_lt n (length xs))
+use Rattle.std.proofs.lemmas.Bool.{lt-ltb, le-ltb, eq-eqb, ne_eqb, eqb-true, and_from, cond-true, cond-false, cond_both, cases_lt}
+use Rattle.std.proofs.lemmas.List.Filters.{FiltersInPlace, FiltersInPlace-more_no, FiltersInPlace-more_set}
+use Rattle.std.specs.Borrow.{Bor}
+use Rattle.std.specs.Fn.{Shared}
+use Rattle.std.specs.List.{position_or_len}
+use Rattle.std.proofs.lemmas.List.Sums.{prefix_len-le-length}
+use Rattle.std.proofs.lemmas.List.{length-take-le, length-set, length-take, length_push, take_min, take_more_set, drop_min, drop-drop, drop-set-lt}
+use Rattle.base.specs.Lists.{found, lookup, put_in, appended, after_append, after_replace, Written, Stored, Put, Tests, Retained}
 
 module _ {X : Type 0} (key : X → ℕ) where
-  pub place_le : (q : ℕ) (xs : List X) → place key q xs ≤ length xs
-  place_le q [] = omega arith
-  place_le q (x ∷ xs) = elim (eqb (key x) q) as (λ b. cond b 0 (suc (place key q xs)) ≤ suc (length xs)) [ true ↦ omega arith | false ↦ omega (arith, place_le q xs) ]
+  -- the index of the first element with the key q, or the length
+  abbrev pub place : ℕ → List X → ℕ
+  place q xs = position_or_len (λ x. eqb (key x) q) xs
 
-  -- the element at the place has the key
-  pub place_key : (q : ℕ) (xs : List X) (d : X) → place key q xs < length xs → key (get_or xs (place key q xs) d) ≡ q
-  place_key q [] d l = absurd (omega arith)
-  place_key q (x ∷ xs) d l =
-      ⊎_elim (λ e. rw e (eqb-true (key x) q e))
-      (λ e. rw e (place_key q xs d (let h : cond (eqb (key x) q) 0 (suc (place key q xs)) < suc (length xs) = l in let f = cond-false (eqb (key x) q) 0 (suc (place key q xs)) e in omega arith)))
-      (cases_Bool (eqb (key x) q))
-
-  -- found, by the place
-  pub found_there : (q : ℕ) (xs : List X) → place key q xs < length xs → found key q xs ≡ Some (place key q xs)
-  found_there q xs l = cond-true _ _ _ (lt-ltb _ _ l)
-
-  pub found_nowhere : (q : ℕ) (xs : List X) → length xs ≤ place key q xs → found key q xs ≡ None
-  found_nowhere q xs l = cond-false _ _ _ (le-ltb _ _ l)
-
-  -- a walk over the list, at its element i: the key's place in what is left gives its place in the list
-  abbrev pub Walked : ℕ → List X → ℕ → ℕ → Type 0
-  Walked q mem count i = i + place key q (drop i (take count mem)) ≡ place key q (take count mem)
-
-  pub walked_found : (q : ℕ) (mem : List X) (count i : ℕ) (x : X) → Walked q mem count i → i < min count (length mem) → x ≡ get_or mem i x → key x ≡ q → Some i ≡ found key q (take count mem)
-  walked_found q mem count i x w l e k =
-      let xs = take count mem in
-      let h : i < length xs = simp length-take (omega arith) in
-      let y = get_or-take count mem i x (omega arith) ∙ sym e in
-      let z : place key q (drop i xs) ≡ 0 = at_drop_more (place key q) xs i x h ∙ cond-true _ 0 _ (eq-eqb _ _ (ap key y ∙ k)) in
-      let p : place key q xs ≡ i = omega arith in
-      sym (found_there q xs (omega arith) ∙ ap (λ j. Some j) p)
-
-  pub walked_more : (q : ℕ) (mem : List X) (count i : ℕ) (x : X) → Walked q mem count i → i < min count (length mem) → x ≡ get_or mem i x → (key x ≡ q → ⊥) → Walked q mem count (i + 1)
-  walked_more q mem count i x w l e k =
-      let xs = take count mem in
-      let h : i < length xs = simp length-take (omega arith) in
-      let y = get_or-take count mem i x (omega arith) ∙ sym e in
-      let z : place key q (drop i xs) ≡ suc (place key q (drop (i + 1) xs)) = at_drop_more (place key q) xs i x h ∙ cond-false _ 0 _ (ne_eqb _ _ (λ f. k (sym (ap key y) ∙ f))) in
-      omega arith
-
-  pub walked_all : (q : ℕ) (mem : List X) (count i : ℕ) → Walked q mem count i → min count (length mem) ≤ i → None ≡ found key q (take count mem)
-  walked_all q mem count i w l =
-      let xs = take count mem in
-      let h : length xs ≤ i = simp length-take (omega arith) in
-      let z : place key q (drop i xs) ≡ 0 = at_drop_all (place key q) xs i h in
-      sym (found_nowhere q xs (omega arith))
-
-  -- the place, by what was found
-  pub found_some : (q : ℕ) (xs : List X) (i : ℕ) → found key q xs ≡ Some i → (i ≡ place key q xs) × (i < length xs)
+  -- what was found, by the place
+  pub found_some : (q : ℕ) (xs : List X) (i : ℕ) → found key q xs ≡ Some i → (i ≡ place q xs) × (i < length xs)
   found_some q xs i e =
-      ⊎_elim (λ l. let s = found_there q xs l in let p : i ≡ place key q xs = cc in (p, omega arith))
-      (λ l. let s = found_nowhere q xs l in let z : ◌≡◌ {A = ℕ} 0 1 = cc in absurd (omega arith))
-      (cases_lt (place key q xs) (length xs))
+      ⊎_elim (λ l. let s : found key q xs ≡ Some (place q xs) = cond-true _ _ _ (lt-ltb _ _ l) in let p : i ≡ place q xs = cc in (p, omega arith))
+      (λ l. let s : found key q xs ≡ None = cond-false _ _ _ (le-ltb _ _ l) in let z : ◌≡◌ {A = ℕ} 0 1 = cc in absurd (omega arith))
+      (cases_lt (place q xs) (length xs))
 
-  pub found_none : (q : ℕ) (xs : List X) → found key q xs ≡ None → place key q xs ≡ length xs
+  pub found_none : (q : ℕ) (xs : List X) → found key q xs ≡ None → place q xs ≡ length xs
   found_none q xs e =
-      ⊎_elim (λ l. let s = found_there q xs l in let z : ◌≡◌ {A = ℕ} 0 1 = cc in absurd (omega arith))
-      (λ l. omega (arith, place_le q xs))
-      (cases_lt (place key q xs) (length xs))
+      ⊎_elim (λ l. let s : found key q xs ≡ Some (place q xs) = cond-true _ _ _ (lt-ltb _ _ l) in let z : ◌≡◌ {A = ℕ} 0 1 = cc in absurd (omega arith))
+      (λ l. omega (arith, prefix_len-le-length (λ x. not (eqb (key x) q)) xs))
+      (cases_lt (place q xs) (length xs))
 
   -- put_in, by the place
-  pub put_in_there : (x : X) (xs : List X) → place key (key x) xs < length xs → put_in key x xs ≡ set xs (place key (key x) xs) x
+  pub put_in_there : (x : X) (xs : List X) → place (key x) xs < length xs → put_in key x xs ≡ set xs (place (key x) xs) x
   put_in_there x [] l = absurd (omega arith)
   put_in_there x (y ∷ ys) l =
-      elim (eqb (key y) (key x)) as (λ b. cond b 0 (suc (place key (key x) ys)) < suc (length ys) → cond b (x ∷ ys) (y ∷ put_in key x ys) ≡ set (y ∷ ys) (cond b 0 (suc (place key (key x) ys))) x)
-      [ true ↦ (λ _. refl) | false ↦ (λ h. ap (λ zs. y ∷ zs) (put_in_there x ys (omega arith))) ] l
+      elim (eqb (key y) (key x)) as (λ b. cond (not b) (1 + place (key x) ys) 0 < suc (length ys) → cond b (x ∷ ys) (y ∷ put_in key x ys) ≡ set (y ∷ ys) (cond (not b) (1 + place (key x) ys) 0) x)
+      [ true ↦ (λ _. refl) | false ↦ (λ h. let e : 1 + place (key x) ys ≡ suc (place (key x) ys) = omega arith in rw e (ap (λ zs. y ∷ zs) (put_in_there x ys (omega arith)))) ] l
 
-  pub put_in_behind : (x : X) (xs : List X) → place key (key x) xs ≡ length xs → put_in key x xs ≡ xs ++ (x ∷ [])
+  pub put_in_behind : (x : X) (xs : List X) → place (key x) xs ≡ length xs → put_in key x xs ≡ xs ++ (x ∷ [])
   put_in_behind x [] l = refl
   put_in_behind x (y ∷ ys) l =
-      elim (eqb (key y) (key x)) as (λ b. cond b 0 (suc (place key (key x) ys)) ≡ suc (length ys) → cond b (x ∷ ys) (y ∷ put_in key x ys) ≡ (y ∷ ys) ++ (x ∷ []))
+      elim (eqb (key y) (key x)) as (λ b. cond (not b) (1 + place (key x) ys) 0 ≡ suc (length ys) → cond b (x ∷ ys) (y ∷ put_in key x ys) ≡ (y ∷ ys) ++ (x ∷ []))
       [ true ↦ (λ h. absurd (omega (arith, h))) | false ↦ (λ h. ap (λ zs. y ∷ zs) (put_in_behind x ys (omega (arith, h)))) ] l
-
-  pub length_put_in : (x : X) (xs : List X) → length (put_in key x xs) ≡ cond (ltb (place key (key x) xs) (length xs)) (length xs) (length xs + 1)
-  length_put_in x xs =
-      ⊎_elim (λ l. rw (lt-ltb (place key (key x) xs) (length xs) l) (ap length (put_in_there x xs l) ∙ length-set xs (place key (key x) xs) x))
-      (λ l. let e : place key (key x) xs ≡ length xs = omega (arith, place_le (key x) xs) in rw (le-ltb (place key (key x) xs) (length xs) l) (ap length (put_in_behind x xs e) ∙ length_push xs x))
-      (cases_lt (place key (key x) xs) (length xs))
 
   -- what replace stores where find found the key
   pub put_replaced : (x : X) (mem : List X) (count end at : ℕ) → end ≡ min count (length mem) → found key (key x) (take end mem) ≡ Some at → Stored (put_in key x (take count mem)) mem (after_replace mem end at x) end
@@ -127,45 +69,58 @@ module _ {X : Type 0} (key : X → ℕ) where
   put_written x mem mem' count end None r e f w = rw (w.answers, w.leaves) (put_appended x mem count end e (sym f))
   put_written x mem mem' count end (Some at) r e f w = rw (w.answers, w.leaves) (put_replaced x mem count end at e (sym f))
 
-module _ {X V : Type 0} (key : X → ℕ) (val : X → V) where
-  -- lookup, by the place
-  pub lookup_found : (q : ℕ) (xs : List X) (d : X) → place key q xs < length xs → lookup key val q xs ≡ Some (val (get_or xs (place key q xs) d))
-  lookup_found q [] d l = absurd (omega arith)
-  lookup_found q (x ∷ xs) d l =
-      elim (eqb (key x) q) as (λ b. cond b 0 (suc (place key q xs)) < suc (length xs) → cond b (Some (val x)) (lookup key val q xs) ≡ Some (val (get_or (x ∷ xs) (cond b 0 (suc (place key q xs))) d)))
-      [ true ↦ (λ _. refl) | false ↦ (λ h. lookup_found q xs d (omega arith)) ] l
-
-  pub lookup_missing : (q : ℕ) (xs : List X) → length xs ≤ place key q xs → lookup key val q xs ≡ None
-  lookup_missing q [] l = refl
-  lookup_missing q (x ∷ xs) l =
-      elim (eqb (key x) q) as (λ b. suc (length xs) ≤ cond b 0 (suc (place key q xs)) → cond b (Some (val x)) (lookup key val q xs) ≡ None)
-      [ true ↦ (λ h. absurd (omega arith)) | false ↦ (λ h. lookup_missing q xs (omega arith)) ] l
-
-  -- lookup after put_in: the value of x under its key, and what there was under any other
-  pub lookup_put_in_same : (x : X) (xs : List X) → lookup key val (key x) (put_in key x xs) ≡ Some (val x)
-  lookup_put_in_same x [] = cond-true _ _ _ (eq-eqb (key x) (key x) refl)
-  lookup_put_in_same x (y ∷ ys) =
-      cond_both (eqb (key y) (key x)) (x ∷ ys) (y ∷ put_in key x ys) (λ zs. lookup key val (key x) zs ≡ Some (val x))
+module _ {X : Type 0} (key : X → ℕ) where
+  find_put_in_same : (x : X) (xs : List X) → find (λ y. eqb (key y) (key x)) (put_in key x xs) ≡ Some x
+  find_put_in_same x [] = cond-true _ _ _ (eq-eqb (key x) (key x) refl)
+  find_put_in_same x (y ∷ ys) =
+      cond_both (eqb (key y) (key x)) (x ∷ ys) (y ∷ put_in key x ys) (λ zs. find (λ z. eqb (key z) (key x)) zs ≡ Some x)
       (λ _. cond-true _ _ _ (eq-eqb (key x) (key x) refl))
-      (λ e. cond-false _ _ _ e ∙ lookup_put_in_same x ys)
+      (λ e. cond-false _ _ _ e ∙ find_put_in_same x ys)
 
-  pub lookup_put_in_other : (x : X) (q : ℕ) (xs : List X) → (key x ≡ q → ⊥) → lookup key val q (put_in key x xs) ≡ lookup key val q xs
-  lookup_put_in_other x q [] n = cond-false _ _ _ (ne_eqb (key x) q n)
-  lookup_put_in_other x q (y ∷ ys) n =
-      cond_both (eqb (key y) (key x)) (x ∷ ys) (y ∷ put_in key x ys) (λ zs. lookup key val q zs ≡ lookup key val q (y ∷ ys))
+  find_put_in_other : (x : X) (q : ℕ) (xs : List X) → (key x ≡ q → ⊥) → find (λ y. eqb (key y) q) (put_in key x xs) ≡ find (λ y. eqb (key y) q) xs
+  find_put_in_other x q [] n = cond-false _ _ _ (ne_eqb (key x) q n)
+  find_put_in_other x q (y ∷ ys) n =
+      cond_both (eqb (key y) (key x)) (x ∷ ys) (y ∷ put_in key x ys) (λ zs. find (λ z. eqb (key z) q) zs ≡ find (λ z. eqb (key z) q) (y ∷ ys))
       (λ e. cond-false _ _ _ (ne_eqb (key x) q n) ∙ sym (cond-false _ _ _ (ne_eqb (key y) q (λ f. n (sym (eqb-true (key y) (key x) e) ∙ f)))))
-      (λ _. ap (cond (eqb (key y) q) (Some (val y))) (lookup_put_in_other x q ys n))
+      (λ _. ap (cond (eqb (key y) q) (Some y)) (find_put_in_other x q ys n))
 
--- what a filter loop over the list leaves
-pub keeping_list : {X : Type 0} {p : X → Bool} {xs ys : List X} {n : ℕ} (count end : ℕ) → end ≡ min count (length xs) → FiltersInPlace p xs ys n end → take n ys ≡ filter p (take count xs)
-keeping_list {p = p} {xs = xs} count end e k = k.front ∙ ap (λ m. filter p (take m xs)) e ∙ ap (filter p) (take_min count xs)
+  module _ {V : Type 0} (val : X → V) where
+    -- lookup, by the first element
+    pub lookup_first : (q : ℕ) (x : X) (xs : List X) → lookup key val q (x ∷ xs) ≡ cond (eqb (key x) q) (Some (val x)) (lookup key val q xs)
+    lookup_first q x xs =
+        elim (eqb (key x) q) as (λ b. option_map val (cond b (Some x) (find (λ y. eqb (key y) q) xs)) ≡ cond b (Some (val x)) (lookup key val q xs)) [ true ↦ refl | false ↦ refl ]
 
-pub keeping_count : {X : Type 0} {p : X → Bool} {xs ys : List X} {n : ℕ} (count end : ℕ) → end ≡ min count (length xs) → FiltersInPlace p xs ys n end → n ≡ length (filter p (take count xs))
-keeping_count {ys = ys} {n = n} count end e k =
-    let l : n ≤ length ys = omega (arith, k.behind, k.within, k.long) in
-    sym (length-take-le n ys l) ∙ ap length (keeping_list count end e k)
+    -- lookup after put_in: the value of x under its key, and what there was under any other
+    pub lookup_put_in_same : (x : X) (xs : List X) → lookup key val (key x) (put_in key x xs) ≡ Some (val x)
+    lookup_put_in_same x xs = ap (option_map val) (find_put_in_same x xs)
 
-pub keeping_rest : {X : Type 0} {p : X → Bool} {xs ys : List X} {n : ℕ} (count end : ℕ) → end ≡ min count (length xs) → FiltersInPlace p xs ys n end → drop count ys ≡ drop count xs
-keeping_rest {xs = xs} {ys = ys} count end e k =
-    let a : end ≡ min count (length ys) = omega (arith, k.long) in
-    sym (drop_min count ys) ∙ ap (λ m. drop m ys) (sym a) ∙ k.rest ∙ ap (λ m. drop m xs) e ∙ drop_min count xs
+    pub lookup_put_in_other : (x : X) (q : ℕ) (xs : List X) → (key x ≡ q → ⊥) → lookup key val q (put_in key x xs) ≡ lookup key val q xs
+    lookup_put_in_other x q xs n = ap (option_map val) (find_put_in_other x q xs n)
+
+-- a filter loop over the list, at its element i
+abbrev pub Retaining : {F X : Type 0} → Shared F (Bor X × Unit {0}) Bool → F → List X → List X → ℕ → ℕ → Type 0
+Retaining {F} {X} g keep xs ys n i = (n ≤ i) × (drop i ys ≡ drop i xs) × ((p : X → Bool) → Tests g keep p → FiltersInPlace p xs ys n i)
+
+one_less : {X : Type 0} (xs ys : List X) (i : ℕ) → drop i ys ≡ drop i xs → drop (i + 1) ys ≡ drop (i + 1) xs
+one_less xs ys i e = sym (drop-drop 1 i ys) ∙ ap (drop 1) e ∙ drop-drop 1 i xs
+
+module _ {F X : Type 0} (g : Shared F (Bor X × Unit {0}) Bool) {keep : F} {xs ys : List X} {n i : ℕ} (k : Retaining g keep xs ys n i) where
+  pub retaining_kept : {x : X} → i < length ys → x ≡ get_or ys i x → ((p : X → Bool) → Tests g keep p → p x ≡ true) → Retaining g keep xs (set ys n x) (n + 1) (i + 1)
+  retaining_kept {x} l e t =
+      (omega (arith, k.0), drop-set-lt (i + 1) ys n x (omega (arith, k.0)) ∙ one_less xs ys i k.1, λ p h. FiltersInPlace-more_set (k.2 p h) l (t p h) e)
+
+  pub retaining_dropped : {x : X} → i < length ys → x ≡ get_or ys i x → ((p : X → Bool) → Tests g keep p → p x ≡ false) → Retaining g keep xs ys n (i + 1)
+  retaining_dropped l e t = (omega (arith, k.0), one_less xs ys i k.1, λ p h. FiltersInPlace-more_no (k.2 p h) l (t p h) e)
+
+  -- what the loop leaves
+  module _ (count : ℕ) (long : length ys ≡ length xs) (end : i ≡ min count (length xs)) where
+    pub retaining_list : (p : X → Bool) → Tests g keep p → Retained p (take count xs) ys n
+    retaining_list p t =
+        let f : take n ys ≡ filter p (take count xs) = (k.2 p t).front ∙ ap (λ m. filter p (take m xs)) end ∙ ap (filter p) (take_min count xs) in
+        let l : n ≤ length ys = omega (arith, k.0) in
+        record { counted = sym (length-take-le n ys l) ∙ ap length f; list = f }
+
+    pub retaining_rest : drop count ys ≡ drop count xs
+    retaining_rest =
+        let a : min count (length ys) ≡ i = ap (min count) long ∙ sym end in
+        sym (drop_min count ys) ∙ ap (λ m. drop m ys) a ∙ k.1 ∙ ap (λ m. drop m xs) end ∙ drop_min count xs

@@ -1,3 +1,5 @@
+pub mod Bounded
+pub mod Limits
 pub mod Lists
 pub mod Refusals
 pub mod Values

@@ -1,19 +1,15 @@
 -- The bounded list: the first `count` elements of lent memory, or all of it where the count is larger.
-use Rattle.std.specs.Prelude.{◌≡◌, ℕ, suc, ◌+◌, ◌<◌, ◌≤◌, Bool, cond, ◌&&◌, List, [], ◌∷◌, length, take, drop, Some, None, Option, MatchOption, ◌==◌, nat_lt, slice_set}
-
--- the index of the first element with the key q, or the length
-abbrev pub place : {X : Type 0} → (X → ℕ) → ℕ → List X → ℕ
-place key q [] = 0
-place key q (x ∷ xs) = cond (key x == q) 0 (suc (place key q xs))
+use Rattle.std.specs.Prelude.{◌≡◌, ℕ, ◌+◌, ◌<◌, ◌≤◌, Bool, cond, ◌&&◌, List, [], ◌∷◌, length, take, drop, Some, None, filter, position, find, option_map, Option, MatchOption, ◌==◌, nat_lt, slice_set}
+use Rattle.std.specs.Borrow.{Bor}
+use Rattle.std.specs.Fn.{Shared, AnyResult}
 
 -- the index of the first element with the key q, or none
 abbrev pub found : {X : Type 0} → (X → ℕ) → ℕ → List X → Option ℕ
-found key q xs = cond (nat_lt (place key q xs) (length xs)) (Some (place key q xs)) None
+found key q xs = position (λ x. key x == q) xs
 
 -- the value of the first element with the key q, or none
 abbrev pub lookup : {X V : Type 0} → (X → ℕ) → (X → V) → ℕ → List X → Option V
-lookup key val q [] = None
-lookup key val q (x ∷ xs) = cond (key x == q) (Some (val x)) (lookup key val q xs)
+lookup key val q xs = option_map val (find (λ x. key x == q) xs)
 
 -- x in the place of the first element with its key, or behind the last
 abbrev pub put_in : {X : Type 0} → (X → ℕ) → X → List X → List X
@@ -57,3 +53,12 @@ pub record Stored {X : Type 0} (xs mem mem' : List X) (n : ℕ) : Type 0 where
 -- put: the list with x put in is stored, and its length answered, where the memory has room for it
 abbrev pub Put : {X : Type 0} → (X → ℕ) → X → List X → ℕ → List X → Option ℕ → Type 0
 Put key x mem count mem' r = MatchOption r (NotStored (put_in key x (take count mem)) mem mem') (Stored (put_in key x (take count mem)) mem mem')
+
+-- a closure answers p of each element that it is lent
+abbrev pub Tests : {F X : Type 0} → Shared F (Bor X × Unit {0}) Bool → F → (X → Bool) → Type 0
+Tests {F} {X} g f p = (x : Bor X) → AnyResult g f (x, tt) (λ r. r ≡ p x.now)
+
+-- retain: the n elements that pass are at the memory's start, in their order
+pub record Retained {X : Type 0} (p : X → Bool) (xs mem' : List X) (n : ℕ) : Type 0 where
+  pub counted : n ≡ length (filter p xs)
+  pub list : take n mem' ≡ filter p xs

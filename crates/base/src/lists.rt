@@ -1,7 +1,7 @@
 // The bounded list: functions over lent memory and a count. The list is the first `count` elements of the memory, or all
 // of it where the count is larger; behind the list the memory may hold anything.
-ghost use Rattle.std.specs.Prelude.{◌≡◌, ℕ, Bool, length, take, drop, Some, filter as kept_by, MatchOption};
-ghost use Rattle.base.specs.Lists.{found, appended, after_append, has_element, after_replace, Written, Put};
+ghost use Rattle.std.specs.Prelude.{◌≡◌, ◌≤◌, ℕ, Bool, take, drop, Some, MatchOption};
+ghost use Rattle.base.specs.Lists.{found, appended, after_append, has_element, after_replace, Written, Put, Tests, Retained};
 
 // What has a number by which a list finds it.
 pub trait Keyed {
@@ -20,25 +20,11 @@ impl Keyed for u16 {
     }
 }
 
-// Which elements of a list stay in it.
-pub trait Filter<T> {
-    ghost passes: { Self → T → Bool };
-
-    fn pass(&self, x: &T) -> bool
-        ensures { result ≡ passes self.now x.now };
-}
-
 // The place of the first element with the key.
 pub fn find<T: Copy + Keyed>(mem: &[T], count: usize, key: u32) -> Option<usize>
     ensures { result ≡ found T.Keyed.key key (take count mem.now) }
 {
-    let end = count.min(mem.len());
-    for at in 0..end {
-        if mem[at].key() == key {
-            return Some(at);
-        }
-    }
-    None
+    mem.iter().take(count).position(|x| x.key() == key)
 }
 
 // Puts x behind the list and answers the new count; none, and nothing altered, where the memory is full.
@@ -90,17 +76,18 @@ fn write<T: Copy>(mem: &mut [T], count: usize, at: Option<usize>, x: T) -> Optio
     }
 }
 
-// Drops, keeping order, each element that does not pass the filter; answers how many are left.
-pub fn retain<T: Copy, F: Filter<T>>(mem: &mut [T], count: usize, filter: &F) -> usize
-    ensures list { take result mem.new ≡ kept_by (F.Filter.passes filter.now) (take count mem.old) }
-    ensures counted { result ≡ length (kept_by (F.Filter.passes filter.now) (take count mem.old)) }
+// Drops, keeping order, each element for which `keep` answers false; answers how many are left.
+pub fn retain<T: Copy, F: Fn(&T) -> bool>(mem: &mut [T], count: usize, keep: F) -> usize
+    requires { F.IsAlwaysCallable keep }
+    ensures list { (p : T → Bool) → Tests F.Fn keep p → Retained p (take count mem.old) mem.new result }
     ensures rest { drop count mem.new ≡ drop count mem.old }
+    ensures fewer { result ≤ count }
 {
     let end = count.min(mem.len());
     let mut n = 0;
     for i in 0..end {
         let x = mem[i];
-        if filter.pass(&x) {
+        if keep(&x) {
             mem[n] = x;
             n += 1;
         }

@@ -1,40 +1,40 @@
 ghost use Rattle.std.specs.Prelude.{◌≡◌};
 ghost use Rattle.base.specs.Refusals.{number};
 
-// Why a call is refused: a closed list, in the order in which the conditions are checked.
+// Why a call is refused: a closed list of numbers, in the order in which the conditions are checked.
 #[derive(Clone, Copy, PartialEq, Eq, Debug)]
 pub enum Refusal {
     // A script row breaks the layout.
-    Layout,
+    Layout = 1,
     // A number is outside its limits, a table is too short, or a script event comes before the start or starts again.
-    Limits,
+    Limits = 2,
     // The carrier's count or its gateways are not the site's.
-    Carrier,
-    UnknownGateway,
-    UnknownChange,
-    UnknownSetting,
+    Carrier = 3,
+    UnknownGateway = 4,
+    UnknownChange = 5,
+    UnknownSetting = 6,
     // Every change number is used.
-    NoChangeLeft,
+    NoChangeLeft = 7,
     // The change is not open.
-    NotOpen,
+    NotOpen = 8,
     // The home cell was written deeper than the opening point.
-    Overwritten,
+    Overwritten = 9,
     // One note or update too many.
-    Full,
+    Full = 10,
     // The gateway leads.
-    Leading,
+    Leading = 11,
     // The message named for a leader's history is unknown, or its path lacks the gateway's last applied message.
-    NoHistory,
+    NoHistory = 12,
     // The gateway follows.
-    NotLeading,
+    NotLeading = 13,
     // The change is not submitted.
-    NotSubmitted,
+    NotSubmitted = 14,
     // The head's path has a message for the change.
-    AlreadyDecided,
+    AlreadyDecided = 15,
     // The head's path lacks the change's opening point.
-    OpeningMissing,
+    OpeningMissing = 16,
     // Every message number is used.
-    NoMessageLeft,
+    NoMessageLeft = 17,
 }
 
 impl Refusal {
@@ -42,24 +42,6 @@ impl Refusal {
     pub fn code(self) -> u32
         ensures { result ≡ number self }
     {
-        match self {
-            Refusal::Layout => 1,
-            Refusal::Limits => 2,
-            Refusal::Carrier => 3,
-            Refusal::UnknownGateway => 4,
-            Refusal::UnknownChange => 5,
-            Refusal::UnknownSetting => 6,
-            Refusal::NoChangeLeft => 7,
-            Refusal::NotOpen => 8,
-            Refusal::Overwritten => 9,
-            Refusal::Full => 10,
-            Refusal::Leading => 11,
-            Refusal::NoHistory => 12,
-            Refusal::NotLeading => 13,
-            Refusal::NotSubmitted => 14,
-            Refusal::AlreadyDecided => 15,
-            Refusal::OpeningMissing => 16,
-            Refusal::NoMessageLeft => 17,
-        }
+        self as u32
     }
 }

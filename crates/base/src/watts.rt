@@ -13,7 +13,7 @@ impl Value for Watts {
     ghost exact = { Prim.search rules };
 
     fn same(&self, other: &Watts) -> bool {
-        self.0 == other.0
+        self == other
     }
 }
 

@@ -18,7 +18,7 @@ impl Value for ChargeWindow {
     ghost exact = { Prim.search rules };
 
     fn same(&self, other: &ChargeWindow) -> bool {
-        self.start == other.start && self.end == other.end && self.watts == other.watts
+        self == other
     }
 }
 

@@ -4,14 +4,15 @@
 ghost use Rattle.std.specs.Prelude.{◌≡◌};
 ghost use Rattle.carrier.specs.Meaning.{Meaning, Sound, Stirred, offered, after_offer, taken, after_take};
 
+pub mod limits;
+mod line;
+pub mod log;
+
 // A carrier gives each offered message a number, puts numbers into one line in an order of its own, and hands the line to
 // each gateway from its start. What it means is its ghost members; whatever stands above it knows no more than that.
 pub trait Carrier {
     // What the carrier holds, in the words of the broadcast.
     ghost meaning: { Self → Meaning };
-
-    // Every number in the line is below the count, and no place passes the line's end.
-    ghost sound: { (x : Self) → Sound (meaning x) };
 
     // How many gateways it serves.
     fn gateways(&self) -> u32
@@ -39,4 +40,7 @@ pub trait Carrier {
     fn take(&mut self, gateway: u32) -> Option<u32>
         ensures answer { result ≡ taken (meaning self.old) gateway }
         ensures after { meaning self.new ≡ after_take (meaning self.old) gateway };
+
+    // Every number in the line is below the count, and no place passes the line's end.
+    ghost sound: { (x : Self) → Sound (meaning x) };
 }

@@ -2,6 +2,7 @@ use base::refusal::Refusal;
 use base::watts::Watts;
 use protocol::records::{Cell, Note, Update};
 use site::Site;
+use std::array;
 use std::fmt::Debug;
 use std::test::Fail;
 use wire::Wire;
@@ -33,13 +34,6 @@ fn first(setting: u32) -> Watts {
     Watts(2000 + (setting % 100) as i32)
 }
 
-// Puts the initial values into a table.
-fn fill(initial: &mut [Watts]) {
-    for i in 0..initial.len() {
-        initial[i] = first((i % 100) as u32);
-    }
-}
-
 // Starts a site over a wire of its own, with the initial values of the settings.
 fn started(
     gateways: u32,
@@ -49,8 +43,7 @@ fn started(
 ) -> Result<Site<Watts>, Refusal> {
     let mut memory = [0; 1];
     let wire = Wire::new(gateways, 1, 1, &mut memory);
-    let mut initial = [Watts(0); 64];
-    fill(&mut initial);
+    let initial: [Watts; 64] = array::from_fn(|setting| first(setting as u32));
     Site::new(&wire, settings, changes, &initial, cells)
 }
 

@@ -1,55 +1,32 @@
-ghost use Rattle.std.specs.Prelude.{◌≤◌};
+ghost use Rattle.std.specs.Prelude.{◌≡◌, ◌-◌, ◌^◌, ◌<◌, IfOk, IfSome};
 
-use script::command::{Command, command_of};
+use script::command::Command;
 use script::event::Event;
 use script::fault::RowFault;
 use script::line::{End, Line};
 use script::listing::{Listed, list_row};
 use script::row::{is_header, parse_row};
 use std::io;
-use std::io::{Read, Write};
+use std::io::{BufRead, Write};
 
-// The bytes that were read last, and how far they were used.
-#[derive(Drop)]
-struct Input {
-    bytes: [u8; 8192],
-    at: usize,
-    len: usize,
-    ghost within: { len ≤ 8192 },
-}
-
-impl Input {
-    // The next byte, or none at the end of the input.
-    fn next_byte<R: Read>(&mut self, source: &mut R) -> io::Result<Option<u8>> {
-        if self.at >= self.len {
-            let mut bytes = [0; 8192];
-            let len = source.read(&mut bytes)?;
-            self.bytes = bytes;
-            self.len = len;
-            self.at = 0;
-            if len == 0 {
-                return Ok(None);
-            }
-        }
-        let byte = self.bytes[self.at];
-        self.at += 1;
-        Ok(Some(byte))
-    }
-}
-
-// Reads on to the end of the next line; what ended it, or none where the input has no line more.
-fn next_line<R: Read>(
-    input: &mut Input,
-    source: &mut R,
-    line: &mut Line,
-) -> io::Result<Option<End>> {
+// Reads on to the end of the next line; what ended it, or none where the script has no line more.
+fn next_line<R: BufRead>(source: &mut R, line: &mut Line) -> io::Result<Option<End>> {
     line.clear();
     for _ in 0..u64::MAX {
-        match input.next_byte(source)? {
-            Some(b'\n') => return Ok(Some(End::LineFeed)),
-            Some(byte) => line.push(byte),
-            None => break,
+        let bytes = source.fill_buf()?;
+        if bytes.is_empty() {
+            break;
         }
+        let end = bytes.iter().position(|byte| *byte == b'\n');
+        let len = end.unwrap_or(bytes.len());
+        for byte in &bytes[..len] {
+            line.push(*byte);
+        }
+        if end.is_some() {
+            source.consume(len + 1);
+            return Ok(Some(End::LineFeed));
+        }
+        source.consume(len);
     }
     if line.is_empty() {
         return Ok(None);
@@ -60,61 +37,73 @@ fn next_line<R: Read>(
 // What a line of the script asks for.
 fn read_command(line: &Line, end: End) -> Result<(Event, Command), RowFault> {
     let row = parse_row(line.row(end)?)?;
-    match command_of(row) {
-        Some(command) => Ok((row.event, command)),
-        None => Err(RowFault::SHAPE),
-    }
+    Ok((row.event, Command::try_from(row)?))
 }
 
-// Where the reading of the script stands, and how many rows are listed.
+// A script that is read, and the listing that is written: the line that was read last, and how many rows are read.
 #[derive(Drop)]
-pub(crate) struct Desk {
-    input: Input,
+pub(crate) struct Desk<R, W> {
+    source: R,
     line: Line,
     row: u64,
+    out: W,
 }
 
-impl Desk {
-    pub(crate) fn new() -> Desk {
+impl<R: BufRead, W: Write> Desk<R, W> {
+    pub(crate) fn new(source: R, out: W) -> Desk<R, W> {
         Desk {
-            input: Input {
-                bytes: [0; 8192],
-                at: 0,
-                len: 0,
-            },
+            source,
             line: Line::new(),
             row: 0,
+            out,
         }
     }
 
     // Whether the script begins with its header.
-    pub(crate) fn takes_header<R: Read>(&mut self, source: &mut R) -> io::Result<bool> {
-        match next_line(&mut self.input, source, &mut self.line)? {
-            None => Ok(false),
-            Some(end) => match self.line.row(end) {
-                Ok(row) => Ok(is_header(row)),
-                Err(_) => Ok(false),
-            },
-        }
+    pub(crate) fn takes_header(&mut self) -> io::Result<bool> {
+        let Some(end) = next_line(&mut self.source, &mut self.line)? else {
+            return Ok(false);
+        };
+        Ok(self.line.row(end).is_ok_and(is_header))
     }
 
-    // What the next row asks for, or its fault; none at the end of the script.
-    pub(crate) fn next_row<R: Read>(
-        &mut self,
-        source: &mut R,
-    ) -> io::Result<Option<Result<(Event, Command), RowFault>>> {
-        match next_line(&mut self.input, source, &mut self.line)? {
-            None => Ok(None),
-            Some(end) => {
-                self.row = self.row.saturating_add(1);
-                Ok(Some(read_command(&self.line, end)))
+    // What the next row asks for, or its fault; none at the end of the script, or where no number is left for a row.
+    fn next_row(&mut self) -> io::Result<Option<Result<(Event, Command), RowFault>>>
+        ensures { IfOk result (λ row. IfSome row (λ _. 2 ^ 64 - self.new.row < 2 ^ 64 - self.old.row)) }
+    {
+        let Some(end) = next_line(&mut self.source, &mut self.line)? else {
+            return Ok(None);
+        };
+        let Some(row) = self.row.checked_add(1) else {
+            return Ok(None);
+        };
+        self.row = row;
+        Ok(Some(read_command(&self.line, end)))
+    }
+
+    // The next command and its event; each row at fault before it is listed so. None at the end of the script.
+    pub(crate) fn next_command(&mut self) -> io::Result<Option<(Event, Command)>>
+        ensures { IfOk result (λ asked. IfSome asked (λ _. 2 ^ 64 - self.new.row < 2 ^ 64 - self.old.row)) }
+    {
+        while let Some(row) = self.next_row()? {
+            match row {
+                Ok(asked) => return Ok(Some(asked)),
+                Err(fault) => self.list(Err(fault))?,
             }
         }
+        Ok(None)
     }
 
     // Lists what came of the row that was read last.
-    pub(crate) fn list<W: Write>(&self, out: &mut W, listed: Listed) -> io::Result<()> {
+    pub(crate) fn list(&mut self, listed: Listed) -> io::Result<()>
+        ensures { self.new.row ≡ self.old.row }
+    {
         let text = list_row(self.row, listed);
-        out.write_all(text.as_slice())
+        self.out.write_all(text.as_slice())
+    }
+
+    // Writes out what is listed so far.
+    pub(crate) fn flush(&mut self) -> io::Result<()> {
+        self.out.flush()
     }
 }

@@ -4,9 +4,10 @@
 mod desk;
 mod run;
 
-use anyhow::anyhow;
 use run::Broadcast;
-use std::{env, io};
+use std::env;
+use std::str::FromStr;
+use thiserror::Error;
 
 const HELP: &str =
     "rehearse: performs a script of calls on a site of watts and lists what each call answered
@@ -28,45 +29,42 @@ Letters and their fields:
 ";
 
 // What the program is asked to do.
-enum Asked {
+enum Request {
     Help,
     Rehearse(Broadcast),
-    Unknown,
 }
 
-// What one word asks for.
-fn asked_by(word: &str) -> Asked {
-    if word == "--help" {
-        return Asked::Help;
+// The program is asked for something else.
+#[derive(Debug, Drop, Error)]
+#[error("rehearse takes no word, or votes, or --help")]
+struct UnknownRequest;
+
+impl FromStr for Request {
+    type Err = UnknownRequest;
+
+    fn from_str(word: &str) -> Result<Request, UnknownRequest> {
+        match word {
+            "--help" => Ok(Request::Help),
+            "votes" => Ok(Request::Rehearse(Broadcast::Votes)),
+            _ => Err(UnknownRequest),
+        }
     }
-    if word == "votes" {
-        return Asked::Rehearse(Broadcast::Votes);
-    }
-    Asked::Unknown
 }
 
 // What the arguments ask for: at most one word.
-fn read_args(rt: &HostRuntime) -> io::Result<Asked> {
-    let mut args = env::args(rt)?;
-    let _program = args.next();
-    let Some(word) = args.next() else {
-        return Ok(Asked::Rehearse(Broadcast::Wire));
-    };
-    if args.next().is_some() {
-        return Ok(Asked::Unknown);
+fn read_args(rt: &HostRuntime) -> anyhow::Result<Request> {
+    let mut words = env::args(rt)?.skip(1);
+    match (words.next(), words.next()) {
+        (None, _) => Ok(Request::Rehearse(Broadcast::Wire)),
+        (Some(word), None) => Ok(word.parse()?),
+        (Some(_), Some(_)) => Err(UnknownRequest.into()),
     }
-    Ok(asked_by(word.as_str()))
-}
-
-fn serve(rt: &HostRuntime) -> anyhow::Result<()> {
-    match read_args(rt)? {
-        Asked::Help => rt.print(HELP)?,
-        Asked::Rehearse(broadcast) => run::rehearse(rt, broadcast)?,
-        Asked::Unknown => return Err(anyhow!("rehearse takes no word, or votes, or --help")),
-    }
-    Ok(())
 }
 
 fn main(rt: HostRuntime) -> anyhow::Result<()> {
-    serve(&rt)
+    match read_args(&rt)? {
+        Request::Help => rt.print(HELP)?,
+        Request::Rehearse(broadcast) => run::rehearse(&rt, broadcast)?,
+    }
+    Ok(())
 }

@@ -1,6 +1,4 @@
-pub mod Reading
-pub mod Filling
+pub mod Parsing
 pub mod Keeping
 pub mod Clipping
-pub mod Spelling
 pub mod Entries

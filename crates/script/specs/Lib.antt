@@ -1,8 +1,8 @@
+pub mod Buffers
 pub mod Bytes
 pub mod Commands
 pub mod Events
 pub mod Numbers
 pub mod Rows
 pub mod Lines
-pub mod Texts
 pub mod Listings

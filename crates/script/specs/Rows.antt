@@ -1,5 +1,6 @@
 -- What a row of a script says.
-use Rattle.std.specs.Prelude.{ℕ, suc, ◌+◌, Bool, true, false, cond, not, ◌&&◌, List, [], ◌∷◌, length, take, drop, Some, None, Ok, Err, codes, Option, Result, ◌==◌, nat_lt}
+use Rattle.std.specs.Prelude.{ℕ, ◌+◌, Bool, true, false, cond, not, ◌&&◌, List, [], ◌∷◌, length, take, drop, Some, None, Ok, Err, codes, Option, Result, ◌==◌, nat_lt}
+use Rattle.std.specs.List.{position_or_len}
 use Rattle.script.specs.declared.event.Event.{Event}
 use Rattle.script.specs.declared.event.Filling.{Filling}
 use Rattle.script.specs.declared.event.Filling.TheVariants.{Required, Optional, Empty}
@@ -17,10 +18,13 @@ use Rattle.script.specs.Numbers.{read_number, read_watts}
 abbrev pub script_header : List ℕ
 script_header = codes "event,a,b,c"
 
+-- a byte is a comma
+abbrev pub is_comma : ℕ → Bool
+is_comma c = c == byte ","
+
 -- the place of the first comma, or the length
 abbrev pub comma_at : List ℕ → ℕ
-comma_at [] = 0
-comma_at (c ∷ cs) = cond (c == (byte ",")) 0 (suc (comma_at cs))
+comma_at s = position_or_len is_comma s
 
 -- whether there is a comma
 abbrev pub has_comma : List ℕ → Bool

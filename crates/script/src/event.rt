@@ -1,6 +1,9 @@
 // The events of a script: their letters, and the fields that each of them fills.
 ghost use Rattle.std.specs.Prelude.{◌≡◌, ◌<◌, Some};
+ghost use Rattle.std.specs.Option.{ok_or};
 ghost use Rattle.script.specs.Events.{event_of, letter_of, layout_of};
+
+use crate::fault::BadLetter;
 
 #[derive(Clone, Copy, PartialEq, Eq, Debug)]
 pub enum Event {
@@ -84,45 +87,51 @@ pub const LAYOUTS: [Layout; 8] = [
 ];
 
 // The event that a letter stands for.
-pub fn event_of(letter: char) -> Option<Event>
-    ensures { result ≡ event_of letter }
-{
-    match letter {
-        'S' => Some(Event::Start),
-        'O' => Some(Event::Open),
-        'R' => Some(Event::Read),
-        'W' => Some(Event::Write),
-        'C' => Some(Event::Submit),
-        'A' => Some(Event::Abandon),
-        'T' => Some(Event::Stir),
-        'P' => Some(Event::Look),
-        _ => None,
+impl TryFrom<char> for Event {
+    type Error = BadLetter;
+
+    ghost try_from_gives = { λ c r. r ≡ ok_or (event_of c) (record {}) };
+
+    fn try_from(letter: char) -> Result<Event, BadLetter> {
+        match letter {
+            'S' => Ok(Event::Start),
+            'O' => Ok(Event::Open),
+            'R' => Ok(Event::Read),
+            'W' => Ok(Event::Write),
+            'C' => Ok(Event::Submit),
+            'A' => Ok(Event::Abandon),
+            'T' => Ok(Event::Stir),
+            'P' => Ok(Event::Look),
+            _ => Err(BadLetter),
+        }
     }
 }
 
 // The letter that stands for an event.
-pub fn letter_of(event: Event) -> char
-    ensures value { result ≡ letter_of event }
-    ensures back { event_of result ≡ Some event }
-    ensures ascii { result < 128 }
-{
-    match event {
-        Event::Start => 'S',
-        Event::Open => 'O',
-        Event::Read => 'R',
-        Event::Write => 'W',
-        Event::Submit => 'C',
-        Event::Abandon => 'A',
-        Event::Stir => 'T',
-        Event::Look => 'P',
+impl From<Event> for char {
+    ghost from_gives = { λ e c. (c ≡ letter_of e) × (event_of c ≡ Some e) × (c < 128) };
+
+    fn from(event: Event) -> char {
+        match event {
+            Event::Start => 'S',
+            Event::Open => 'O',
+            Event::Read => 'R',
+            Event::Write => 'W',
+            Event::Submit => 'C',
+            Event::Abandon => 'A',
+            Event::Stir => 'T',
+            Event::Look => 'P',
+        }
     }
 }
 
-// The event's layout.
-pub fn layout_of(event: Event) -> Layout
-    ensures { result ≡ layout_of event }
-{
-    LAYOUTS[event as usize]
+impl Event {
+    // What the event asks of its fields.
+    pub fn layout(self) -> Layout
+        ensures { result ≡ layout_of self }
+    {
+        LAYOUTS[self as usize]
+    }
 }
 
 #[cfg(test)]
@@ -131,7 +140,7 @@ mod tests {
 
     #[test]
     fn letters_stand_for_events(rt: HostRuntime) {
-        assert_eq!(rt; event_of('P'), Some(Event::Look));
-        assert_eq!(rt; event_of('s'), None);
+        assert_eq!(rt; Event::try_from('P'), Ok(Event::Look));
+        assert_eq!(rt; Event::try_from('s'), Err(BadLetter));
     }
 }

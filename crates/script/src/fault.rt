@@ -1,6 +1,10 @@
 // Faults: in a number, in a field, in a line, in a row. `?` turns each into the next.
 ghost use Rattle.std.specs.Prelude.{◌≡◌};
-ghost use Rattle.script.specs.declared.fault.Cause.TheVariants.{Shape, Number};
+ghost use Rattle.script.specs.Listings.{cause_word};
+ghost use Rattle.script.specs.declared.fault.Cause.TheVariants.{Shape, Letter, Number};
+
+use std::num::ParseIntError;
+use std::str::Utf8Error;
 
 // Why a row is at fault.
 #[derive(Clone, Copy, PartialEq, Eq, Debug)]
@@ -16,6 +20,10 @@ pub enum Cause {
     // The first line is not the header.
     Header,
 }
+
+// The byte is not the letter of an event, or the field is not one byte.
+#[derive(Clone, Copy, PartialEq, Eq, Debug)]
+pub struct BadLetter;
 
 // The bytes do not write a number of the field's range.
 #[derive(Clone, Copy, PartialEq, Eq, Debug)]
@@ -38,6 +46,21 @@ pub struct RowFault {
     pub cause: Cause,
 }
 
+impl Cause {
+    // The word for the cause.
+    pub fn word(self) -> &'static [u8]
+        ensures { result.now ≡ cause_word self }
+    {
+        match self {
+            Cause::Shape => b"shape",
+            Cause::Letter => b"letter",
+            Cause::Fill => b"fill",
+            Cause::Number => b"number",
+            Cause::Header => b"header",
+        }
+    }
+}
+
 impl RowFault {
     // Too long, or not four fields.
     pub const SHAPE: RowFault = RowFault {
@@ -58,6 +81,18 @@ impl RowFault {
     };
 }
 
+impl From<Utf8Error> for BadNumber {
+    fn from(_error: Utf8Error) -> BadNumber {
+        BadNumber
+    }
+}
+
+impl From<ParseIntError> for BadNumber {
+    fn from(_error: ParseIntError) -> BadNumber {
+        BadNumber
+    }
+}
+
 impl<const F: u8> From<BadNumber> for FieldFault<F> {
     ghost from_gives = { λ _ t. t.cause ≡ Number };
 
@@ -76,6 +111,14 @@ impl<const F: u8> From<FieldFault<F>> for RowFault {
             field: F,
             cause: fault.cause,
         }
+    }
+}
+
+impl From<BadLetter> for RowFault {
+    ghost from_gives = { λ _ t. (t.field ≡ 1) × (t.cause ≡ Letter) };
+
+    fn from(_fault: BadLetter) -> RowFault {
+        RowFault::LETTER
     }
 }
 

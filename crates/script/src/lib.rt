@@ -1,6 +1,7 @@
 // The script of events and the listing of their answers, as text.
 #![tactic(auto)]
 
+pub mod buffer;
 pub mod command;
 pub mod event;
 pub mod fault;
@@ -8,4 +9,3 @@ pub mod line;
 pub mod listing;
 pub mod number;
 pub mod row;
-pub mod text;

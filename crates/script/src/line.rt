@@ -1,15 +1,13 @@
 // The line that is being read, in bounded memory.
-ghost use Rattle.std.specs.Prelude.{◌≤◌};
-
 mod reading;
 
-// The bytes of a line so far: the first 65 of them, and whether more came. 64 bytes and a carriage return fit.
+use crate::buffer::Buffer;
+use crate::fault::TooLong;
+
+// The bytes of a line so far, where at most 65 came: 64 bytes and a carriage return fit.
 #[derive(Clone, Copy)]
 pub struct Line {
-    bytes: [u8; 65],
-    len: usize,
-    more: bool,
-    ghost fits: { len ≤ 65 },
+    bytes: Result<Buffer<65>, TooLong>,
 }
 
 // What ended a line: a line feed, or the end of the script.

@@ -1,20 +1,25 @@
 // The listing: one line for each row of a script.
 ghost use Rattle.std.specs.Prelude.{◌≡◌};
-ghost use Rattle.script.specs.Texts.{written};
-ghost use Rattle.script.specs.Listings.{listing_header, cause_word, entry_of, row_text};
+ghost use Rattle.script.specs.Buffers.{held};
+ghost use Rattle.script.specs.Listings.{listing_header, entry_of, Shows, row_text};
 
-use crate::event::{Event, letter_of};
-use crate::fault::{Cause, RowFault};
-use crate::text::Text;
+use crate::buffer::Buffer;
+use crate::event::Event;
+use crate::fault::RowFault;
 use base::refusal::Refusal;
 
-// What the listing says of a row.
+// What an event was answered: a value or none where it was served, or a refusal.
 #[derive(Clone, Copy)]
-pub enum Listed {
-    Served { event: Event, value: Option<i64> },
-    Refused { event: Event, refusal: Refusal },
-    Faulty(RowFault),
+pub struct Answered {
+    pub event: Event,
+    pub answer: Result<Option<i64>, Refusal>,
 }
+
+// What the listing says of a row: what its event was answered, or its fault.
+pub type Listed = Result<Answered, RowFault>;
+
+// A line of the listing, in 96 bytes: its five fields and its end never have as many.
+pub type Text = Buffer<96>;
 
 const HEADER: &[u8] = b"row,event,answer,value,outcome\r\n";
 
@@ -36,60 +41,57 @@ pub fn listing_header() -> &'static [u8]
     HEADER
 }
 
-// The word for a cause.
-pub fn cause_word(cause: Cause) -> &'static [u8]
-    ensures { result.now ≡ cause_word cause }
-{
-    match cause {
-        Cause::Shape => b"shape",
-        Cause::Letter => b"letter",
-        Cause::Fill => b"fill",
-        Cause::Number => b"number",
-        Cause::Header => b"header",
-    }
-}
+impl From<Listed> for Entry {
+    ghost from_gives = { λ l e. Shows e (entry_of l) };
 
-fn entry_of(listed: Listed) -> Entry
-    ensures { (result.letter ≡ (entry_of listed).letter) × (result.answer ≡ (entry_of listed).answer) × (result.value ≡ (entry_of listed).value) × (result.outcome.now ≡ (entry_of listed).outcome) }
-{
-    match listed {
-        Listed::Served { event, value } => Entry {
-            letter: letter_of(event) as u8,
-            answer: 0,
-            value,
-            outcome: b"",
-        },
-        Listed::Refused { event, refusal } => Entry {
-            letter: letter_of(event) as u8,
-            answer: refusal.code(),
-            value: None,
-            outcome: b"",
-        },
-        Listed::Faulty(fault) => Entry {
-            letter: b'?',
-            answer: Refusal::Layout.code(),
-            value: Some(i64::from(fault.field)),
-            outcome: cause_word(fault.cause),
-        },
+    fn from(listed: Listed) -> Entry {
+        match listed {
+            Ok(
+                Answered {
+                    event,
+                    answer: Ok(value),
+                },
+            ) => Entry {
+                letter: char::from(event) as u8,
+                answer: 0,
+                value,
+                outcome: b"",
+            },
+            Ok(
+                Answered {
+                    event,
+                    answer: Err(refusal),
+                },
+            ) => Entry {
+                letter: char::from(event) as u8,
+                answer: refusal.code(),
+                value: None,
+                outcome: b"",
+            },
+            Err(fault) => Entry {
+                letter: b'?',
+                answer: Refusal::Layout.code(),
+                value: Some(i64::from(fault.field)),
+                outcome: fault.cause.word(),
+            },
+        }
     }
 }
 
 // The line of a row.
 pub fn list_row(row: u64, listed: Listed) -> Text
-    ensures { written result ≡ row_text row listed }
+    ensures { held result ≡ row_text row listed }
 {
-    let entry = entry_of(listed);
+    let entry = Entry::from(listed);
     let mut text = Text::new();
-    text.push_number(row);
-    text.push(b',');
-    text.push(entry.letter);
-    text.push(b',');
-    text.push_number(u64::from(entry.answer));
-    text.push(b',');
-    text.push_value(entry.value);
-    text.push(b',');
-    text.push_all(entry.outcome);
-    text.push_all(LINE_END);
+    text.extend_number(row);
+    text.extend(&[b',', entry.letter, b',']);
+    text.extend_number(entry.answer);
+    text.extend(b",");
+    text.extend_value(entry.value);
+    text.extend(b",");
+    text.extend(entry.outcome);
+    text.extend(LINE_END);
     text
 }
 
@@ -101,18 +103,18 @@ mod tests {
     fn served_rows_have_a_value(rt: HostRuntime) {
         let text = list_row(
             4,
-            Listed::Served {
+            Ok(Answered {
                 event: Event::Submit,
-                value: Some(1),
-            },
+                answer: Ok(Some(1)),
+            }),
         );
         assert!(rt; text.as_slice() == b"4,C,0,1,\r\n".as_slice());
         let text = list_row(
             3,
-            Listed::Served {
+            Ok(Answered {
                 event: Event::Write,
-                value: None,
-            },
+                answer: Ok(None),
+            }),
         );
         assert!(rt; text.as_slice() == b"3,W,0,,\r\n".as_slice());
     }
@@ -121,10 +123,10 @@ mod tests {
     fn long_numbers_fit(rt: HostRuntime) {
         let text = list_row(
             u64::MAX,
-            Listed::Served {
+            Ok(Answered {
                 event: Event::Look,
-                value: Some(i64::MIN),
-            },
+                answer: Ok(Some(i64::MIN)),
+            }),
         );
         assert!(rt;
             text.as_slice() == b"18446744073709551615,P,0,-9223372036854775808,\r\n".as_slice()
@@ -135,13 +137,13 @@ mod tests {
     fn refusals_and_faults_have_numbers(rt: HostRuntime) {
         let text = list_row(
             7,
-            Listed::Refused {
+            Ok(Answered {
                 event: Event::Read,
-                refusal: Refusal::Overwritten,
-            },
+                answer: Err(Refusal::Overwritten),
+            }),
         );
         assert!(rt; text.as_slice() == b"7,R,9,,\r\n".as_slice());
-        let text = list_row(0, Listed::Faulty(RowFault::HEADER));
+        let text = list_row(0, Err(RowFault::HEADER));
         assert!(rt; text.as_slice() == b"0,?,1,5,header\r\n".as_slice());
     }
 }

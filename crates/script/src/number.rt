@@ -1,71 +1,37 @@
 // Numbers as the fields of a script write them.
 ghost use Rattle.std.specs.Prelude.{◌≡◌};
-ghost use Rattle.script.specs.Numbers.{read_digits, read_number, downward, upward, read_watts};
+ghost use Rattle.script.specs.Numbers.{read_number, read_watts, Parses};
 
 use crate::fault::BadNumber;
-
-// The value of the digits: each byte is a digit, and the value has 32 bits.
-fn digits(s: &[u8]) -> Result<u32, BadNumber>
-    ensures { result ≡ read_digits 0 s.now }
-{
-    let mut n: u32 = 0;
-    for b in s {
-        let digit = *b;
-        if digit < b'0' || digit > b'9' {
-            return Err(BadNumber);
-        }
-        let next = n as u64 * 10 + (digit - b'0') as u64;
-        if next > 0xffff_ffff {
-            return Err(BadNumber);
-        }
-        n = next as u32;
-    }
-    Ok(n)
-}
+use std::num::ParseIntError;
+use std::str;
+use std::str::FromStr;
 
 // A decimal number, 0 to 4,294,967,295, without leading zeros.
 pub fn number(s: &[u8]) -> Result<u32, BadNumber>
     ensures { result ≡ read_number s.now }
 {
-    if s.len() == 0 {
-        return Err(BadNumber);
+    match s {
+        [b'+', ..] | [b'0', _, ..] => Err(BadNumber),
+        _ => parsed(s),
     }
-    if s[0] == b'0' && s.len() > 1 {
-        return Err(BadNumber);
-    }
-    digits(s)
 }
 
 // Watts: a number of 31 bits, or `-` and one that is not 0.
 pub fn watts(s: &[u8]) -> Result<i32, BadNumber>
     ensures { result ≡ read_watts s.now }
 {
-    if s.len() > 0 && s[0] == b'-' {
-        let n = number(&s[1..])?;
-        return below_zero(n);
+    match s {
+        [b'+', ..] | [b'0', _, ..] | [b'-', b'0', ..] => Err(BadNumber),
+        _ => parsed(s),
     }
-    let n = number(s)?;
-    from_zero(n)
 }
 
-// That many watts, from 0 on.
-fn from_zero(n: u32) -> Result<i32, BadNumber>
-    ensures { result ≡ upward n }
+// What the bytes say as an integer of the library.
+fn parsed<T: FromStr<Err = ParseIntError>>(s: &[u8]) -> Result<T, BadNumber>
+    ensures { Parses T.from_str_gives s.now result }
 {
-    if n > 0x7fff_ffff {
-        return Err(BadNumber);
-    }
-    Ok(n as i32)
-}
-
-// That many watts below 0.
-fn below_zero(n: u32) -> Result<i32, BadNumber>
-    ensures { result ≡ downward n }
-{
-    if n == 0 || n > 0x8000_0000 {
-        return Err(BadNumber);
-    }
-    Ok((0 - n as i64) as i32)
+    Ok(str::from_utf8(s)?.parse()?)
 }
 
 #[cfg(test)]

@@ -1,10 +1,12 @@
 // A row of a script: an event and its fields.
-ghost use Rattle.std.specs.Prelude.{◌≡◌, ◌≤◌, true, false, length, IfOk, Decides, MatchOption, ◌==◌};
-ghost use Rattle.script.specs.Numbers.{read_number, read_watts};
-ghost use Rattle.script.specs.Rows.{script_header, comma_at, has_comma, before, after, shaped, read_event, to_read, read_field, by_cause, read_fields, read_row, filled_as_its_layout_asks};
+ghost use Rattle.std.specs.Prelude.{◌≡◌, List, ℕ, Result, Option, true, false, length, IfOk, Decides, MatchOption, ◌==◌, position};
+ghost use Rattle.std.specs.Fn.{FnReturnsAt};
+ghost use Rattle.std.specs.Option.{ok_or};
+ghost use Rattle.script.specs.declared.fault.BadNumber.{BadNumber};
+ghost use Rattle.script.specs.Rows.{script_header, is_comma, has_comma, before, after, shaped, read_event, to_read, value_if, by_cause, read_fields, read_row, filled_as, filled_as_its_layout_asks};
 
-use crate::event::{Event, Filling, event_of, layout_of};
-use crate::fault::{Cause, FieldFault, RowFault};
+use crate::event::{Event, Filling};
+use crate::fault::{BadLetter, BadNumber, Cause, FieldFault, RowFault};
 use crate::number::{number, watts};
 
 #[derive(Clone, Copy, PartialEq, Eq, Debug)]
@@ -22,82 +24,48 @@ const LONGEST: usize = 64;
 fn is_to_read<const F: u8>(s: &[u8], filling: Filling) -> Result<bool, FieldFault<F>>
     ensures { by_cause result ≡ to_read filling (length s.now == 0) }
 {
-    let full = s.len() > 0;
-    match filling {
-        Filling::Required => {
-            if full {
-                Ok(true)
-            } else {
-                Err(FieldFault { cause: Cause::Fill })
-            }
+    match (filling, s.is_empty()) {
+        (Filling::Required, true) | (Filling::Empty, false) => {
+            Err(FieldFault { cause: Cause::Fill })
         }
-        Filling::Optional => Ok(full),
-        Filling::Empty => {
-            if full {
-                Err(FieldFault { cause: Cause::Fill })
-            } else {
-                Ok(false)
-            }
-        }
+        (_, empty) => Ok(!empty),
     }
 }
 
-fn number_field<const F: u8>(s: &[u8], filling: Filling) -> Result<Option<u32>, FieldFault<F>>
-    ensures { by_cause result ≡ read_field read_number filling s.now }
+// The value of the field F, as its filling says; `read` reads its bytes.
+fn field<T, const F: u8, R: Fn(&[u8]) -> Result<T, BadNumber>>(
+    s: &[u8],
+    filling: Filling,
+    read: R,
+) -> Result<Option<T>, FieldFault<F>>
+    requires { R.IsAlwaysCallable read }
+    ensures filled { IfOk result (filled_as filling) }
+    ensures value { (said : Result T BadNumber) → ((answer : Result T BadNumber) → FnReturnsAt R.Fn read s.now answer → answer ≡ said) → by_cause result ≡ value_if (to_read filling (length s.now == 0)) said }
 {
     if !is_to_read::<F>(s, filling)? {
         return Ok(None);
     }
-    Ok(Some(number(s)?))
+    Ok(Some(read(s)?))
 }
 
-fn watts_field<const F: u8>(s: &[u8], filling: Filling) -> Result<Option<i32>, FieldFault<F>>
-    ensures { by_cause result ≡ read_field read_watts filling s.now }
+// The index of the first comma.
+fn comma(s: &[u8]) -> Option<usize>
+    ensures { result ≡ position is_comma s.now }
 {
-    if !is_to_read::<F>(s, filling)? {
-        return Ok(None);
-    }
-    Ok(Some(watts(s)?))
-}
-
-// The index of the first comma, or the length where there is none.
-fn comma(s: &[u8]) -> usize
-    ensures bound { result ≤ length s.now }
-    ensures value { result ≡ comma_at s.now }
-{
-    let mut i = 0;
-    for b in s {
-        if *b == b',' {
-            return i;
-        }
-        i += 1;
-    }
-    i
+    s.iter().position(|b| *b == b',')
 }
 
 // The part before the first comma, and the part after it.
 fn cut(s: &[u8]) -> Option<(&[u8], &[u8])>
     ensures { MatchOption result (has_comma s.now ≡ false) (λ p. (has_comma s.now ≡ true) × (p.0.now ≡ before s.now) × (p.1.now ≡ after s.now)) }
 {
-    let i = comma(s);
-    if i < s.len() {
-        Some((&s[0..i], &s[i + 1..]))
-    } else {
-        None
-    }
+    let i = comma(s)?;
+    Some((&s[..i], &s[i + 1..]))
 }
 
-// The four fields of a row, as its bytes.
-#[derive(Clone, Copy)]
-struct Fields<'a> {
-    event: &'a [u8],
-    a: &'a [u8],
-    b: &'a [u8],
-    c: &'a [u8],
-}
-
-fn split_row(line: &[u8]) -> Option<Fields<'_>>
-    ensures { MatchOption result (shaped line.now ≡ false) (λ f. (shaped line.now ≡ true) × (f.event.now ≡ before line.now) × (f.a.now ≡ before (after line.now)) × (f.b.now ≡ before (after (after line.now))) × (f.c.now ≡ after (after (after line.now)))) }
+// The four fields of a row, as its bytes: the event, a, b and c.
+fn split_row(line: &[u8]) -> Option<(&[u8], &[u8], &[u8], &[u8])>
+    ensures { MatchOption result (shaped line.now ≡ false) (λ f. (shaped line.now ≡ true) × (f.0.now ≡ before line.now) × (f.1.now ≡ before (after line.now)) × (f.2.now ≡ before (after (after line.now))) × (f.3.now ≡ after (after (after line.now)))) }
 {
     if line.len() > LONGEST {
         return None;
@@ -105,29 +73,30 @@ fn split_row(line: &[u8]) -> Option<Fields<'_>>
     let (event, rest) = cut(line)?;
     let (a, rest) = cut(rest)?;
     let (b, c) = cut(rest)?;
-    if comma(c) < c.len() {
+    if comma(c).is_some() {
         return None;
     }
-    Some(Fields { event, a, b, c })
+    Some((event, a, b, c))
 }
 
 // The event of the first field.
-fn event_field(s: &[u8]) -> Option<Event>
-    ensures { result ≡ read_event s.now }
+fn event_field(s: &[u8]) -> Result<Event, BadLetter>
+    ensures { result ≡ ok_or (read_event s.now) (record {}) }
 {
     match s {
-        [letter] => event_of(*letter as char),
-        _ => None,
+        [letter] => Event::try_from(char::from(*letter)),
+        _ => Err(BadLetter),
     }
 }
 
 fn row_of(event: Event, a: &[u8], b: &[u8], c: &[u8]) -> Result<Row, RowFault>
-    ensures { result ≡ read_fields event a.now b.now c.now }
+    ensures value { result ≡ read_fields event a.now b.now c.now }
+    ensures filled { IfOk result filled_as_its_layout_asks }
 {
-    let layout = layout_of(event);
-    let a = number_field::<2>(a, layout.a)?;
-    let b = number_field::<3>(b, layout.b)?;
-    let c = watts_field::<4>(c, layout.c)?;
+    let layout = event.layout();
+    let a = field::<_, 2, _>(a, layout.a, number)?;
+    let b = field::<_, 3, _>(b, layout.b, number)?;
+    let c = field::<_, 4, _>(c, layout.c, watts)?;
     Ok(Row { event, a, b, c })
 }
 
@@ -136,32 +105,15 @@ pub fn parse_row(line: &[u8]) -> Result<Row, RowFault>
     ensures value { result ≡ read_row line.now }
     ensures filled { IfOk result filled_as_its_layout_asks }
 {
-    row_in(line)
-}
-
-fn row_in(line: &[u8]) -> Result<Row, RowFault>
-    ensures { result ≡ read_row line.now }
-{
-    let Some(fields) = split_row(line) else {
-        return Err(RowFault::SHAPE);
-    };
-    let Some(event) = event_field(fields.event) else {
-        return Err(RowFault::LETTER);
-    };
-    row_of(event, fields.a, fields.b, fields.c)
+    let (event, a, b, c) = split_row(line).ok_or(RowFault::SHAPE)?;
+    row_of(event_field(event)?, a, b, c)
 }
 
 // Whether the line is the first line of a script.
 pub fn is_header(line: &[u8]) -> bool
     ensures { Decides result (line.now ≡ script_header) }
 {
-    same_bytes(line, b"event,a,b,c")
-}
-
-fn same_bytes(s: &[u8], t: &[u8]) -> bool
-    ensures { Decides result (s.now ≡ t.now) }
-{
-    s == t
+    line == b"event,a,b,c".as_slice()
 }
 
 #[cfg(test)]

@@ -11,14 +11,14 @@ use Rattle.protocol.specs.Calls.{or_else, known, not_open, with_update, open_che
 use Rattle.protocol.specs.Paths.{depth}
 use Rattle.protocol.specs.View.{ChangeView, change_at, cell_at, is_open}
 use Rattle.site.specs.declared.site.Site.{Site}
-use Rattle.site.specs.Checks.{closed, asked_late, asked_open, may_open, asked_read, may_read, asked_write, may_write, asked_submit, may_submit, asked_abandon, may_abandon, asked_stir, may_stir, asked_look, may_look}
-use Rattle.site.specs.Tables.{view}
+use Rattle.site.specs.Checks.{asked_late, asked_open, may_open, asked_read, may_read, asked_write, may_write, asked_submit, may_submit, asked_abandon, may_abandon, asked_stir, may_stir, asked_look, may_look}
+use Rattle.site.specs.Tables.{view, change_count, message_count, record_of}
 use Rattle.site.proofs.CallLaws.{first_agree, first_append}
 use Rattle.site.proofs.ViewLaws.{messages_count, changes_count, gateways_count, change_is}
 
 module _ {V : Type 0} (s : Site V) (ns : List (Note V)) (us : List (Update V)) (xs : List (Cell V)) where
   -- whether the change is open
-  state_is : (k : ℕ) → leb s.change_count k ≡ false → not_open (view s ns us xs) k ≡ closed s k
+  state_is : (k : ℕ) → leb (change_count s) k ≡ false → not_open (view s ns us xs) k ≡ not (is_open (record_of s k).state)
   state_is k h = ap (λ c. not (is_open c.state)) (change_is s ns us xs k (leb-false _ _ h))
 
   pub open_asked : (g : ℕ) → open_refused (view s ns us xs) g ≡ may_open s g
@@ -33,7 +33,7 @@ module _ {V : Type 0} (s : Site V) (ns : List (Note V)) (us : List (Update V)) (
   unfolding view stir_refused
   stir_asked m =
       first_agree (stir_checks (view s ns us xs) m) (asked_stir s m.count m.gateways)
-      (ap (λ n. not (eqb m.count n) || not (eqb m.gateways (length (view s ns us xs).gateways))) (messages_count s ns us xs) ∙ ap (λ n. not (eqb m.count s.message_count) || not (eqb m.gateways n)) (gateways_count s ns us xs), refl, λ _. tt)
+      (ap (λ n. not (eqb m.count n) || not (eqb m.gateways (length (view s ns us xs).gateways))) (messages_count s ns us xs) ∙ ap (λ n. not (eqb m.count (message_count s)) || not (eqb m.gateways n)) (gateways_count s ns us xs), refl, λ _. tt)
 
   pub look_asked : (g st : ℕ) → look_refused (view s ns us xs) g st ≡ may_look s (length xs) g st
   unfolding view look_refused

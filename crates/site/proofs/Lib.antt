@@ -1,6 +1,5 @@
 pub mod CallLaws
 pub mod CheckLaws
-pub mod KeptLaws
 pub mod ReadLaws
 pub mod RowLaws
 pub mod SubmitLaws

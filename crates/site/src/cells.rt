@@ -1,18 +1,18 @@
 ghost use Rattle.std.specs.Prelude.{◌≡◌, ℕ, ◌+◌, ◌*◌, ◌<◌, ◌≤◌, map, length, take, drop};
 ghost use Rattle.protocol.specs.Calls.{initial_cell};
-ghost use Rattle.site.specs.Tables.{row};
+ghost use Rattle.site.specs.Tables.{row, gateway_count};
 
-use crate::site::Site;
+use crate::site::{Site, Size};
 use base::value::Value;
 use protocol::records::Cell;
 
 impl<V> Site<V> {
     // Where a gateway's cell for a setting lies in the table of cells.
     pub(crate) fn cell_index(&self, gateway: u32, setting: u32) -> usize
-        requires gateway_known { gateway < self.now.gateway_count }
+        requires gateway_known { gateway < gateway_count self.now }
         requires setting_known { setting < self.now.settings }
         ensures value { result ≡ self.now.settings * gateway + setting }
-        ensures within { result < self.now.settings * self.now.gateway_count }
+        ensures within { result < self.now.settings * gateway_count self.now }
     {
         self.settings * gateway as usize + setting as usize
     }
@@ -23,32 +23,23 @@ fn fill_row<V: Value>(cells: &mut [Cell<V>], initial: &[V])
     requires { length cells.old ≤ length initial.now }
     ensures { cells.new ≡ map initial_cell (take (length cells.old) initial.now) }
 {
-    for i in 0..cells.len() {
+    for (i, value) in initial[..cells.len()].iter().enumerate() {
         cells[i] = Cell {
-            value: initial[i],
+            value: *value,
             depth: 0,
         };
     }
 }
 
 // Puts the initial values into the cells of every gateway.
-pub(crate) fn fill_rows<V: Value>(
-    cells: &mut [Cell<V>],
-    initial: &[V],
-    settings: usize,
-    gateways: usize,
-)
-    requires few_settings { settings ≤ 64 }
-    requires few_gateways { gateways ≤ 8 }
-    requires cells_room { settings * gateways ≤ length cells.old }
-    requires initial_room { settings ≤ length initial.now }
-    ensures filled { (g : ℕ) → g < gateways → row settings g cells.new ≡ map initial_cell (take settings initial.now) }
-    ensures beyond { drop (settings * gateways) cells.new ≡ drop (settings * gateways) cells.old }
+pub(crate) fn fill_rows<V: Value>(cells: &mut [Cell<V>], initial: &[V], size: Size)
+    requires cells_room { size.settings * size.gateways ≤ length cells.old }
+    requires initial_room { size.settings ≤ length initial.now }
+    ensures filled { (g : ℕ) → g < size.gateways → row size.settings g cells.new ≡ map initial_cell (take size.settings initial.now) }
+    ensures beyond { drop (size.settings * size.gateways) cells.new ≡ drop (size.settings * size.gateways) cells.old }
 {
-    let mut start = 0;
-    for g in 0..gateways {
-        let end = start + settings;
-        fill_row(&mut cells[start..end], initial);
-        start = end;
+    for g in 0..size.gateways {
+        let start = size.settings * g;
+        fill_row(&mut cells[start..start + size.settings], initial);
     }
 }

@@ -1,32 +1,39 @@
-ghost use Rattle.std.specs.Prelude.{◌≡◌, ◌≤◌, length};
-ghost use Rattle.site.specs.Kept.{FewEntries, KnownHomes};
+ghost use Rattle.std.specs.Prelude.{◌≤◌, length, All};
+ghost use Rattle.base.specs.Bounded.{listed};
+ghost use Rattle.site.specs.Kept.{WellFormed};
 
+use base::bounded::Bounded;
 use protocol::records::{Change, Gateway, Message};
 use std::marker::PhantomData;
+
+// How large a site is: each number is within its limit.
+#[derive(Clone, Copy)]
+pub(crate) struct Size {
+    pub(crate) gateways: usize,
+    pub(crate) settings: usize,
+    // How many changes there can be.
+    pub(crate) limit: usize,
+    ghost few_gateways: { gateways ≤ 8 },
+    ghost few_settings: { settings ≤ 64 },
+    ghost low_limit: { limit ≤ 256 },
+}
 
 // The settings of a battery site on its gateways, for values of type V: the site's own record. Cells, notes and updates
 // lie in tables that the caller lends to each call; the site allocates nothing.
 #[derive(Drop)]
 pub struct Site<V> {
-    pub(crate) messages: [Message; 1024],
-    pub(crate) message_count: usize,
-    pub(crate) changes: [Change; 256],
-    pub(crate) change_count: usize,
-    pub(crate) gateways: [Gateway; 8],
-    pub(crate) gateway_count: usize,
+    pub(crate) messages: Bounded<Message, 1024>,
+    pub(crate) changes: Bounded<Change, 256>,
+    pub(crate) gateways: Bounded<Gateway, 8>,
     // How many settings there are.
     pub(crate) settings: usize,
     // How many changes there can be.
     pub(crate) limit: usize,
     pub(crate) values: PhantomData<V>,
-    ghost messages_long: { length messages ≡ 1024 },
-    ghost changes_long: { length changes ≡ 256 },
-    ghost gateways_long: { length gateways ≡ 8 },
-    ghost few_messages: { message_count ≤ 1024 },
-    ghost few_changes: { change_count ≤ limit },
+    ghost few_messages: { length (listed messages) ≤ 1024 },
+    ghost few_changes: { length (listed changes) ≤ limit },
     ghost low_limit: { limit ≤ 256 },
-    ghost few_gateways: { gateway_count ≤ 8 },
+    ghost few_gateways: { length (listed gateways) ≤ 8 },
     ghost few_settings: { settings ≤ 64 },
-    ghost few_entries: { FewEntries changes change_count },
-    ghost known_homes: { KnownHomes changes change_count gateway_count },
+    ghost well_formed: { All (WellFormed (length (listed gateways))) (listed changes) },
 }

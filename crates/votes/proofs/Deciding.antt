@@ -1,7 +1,10 @@
 -- One more vote in a slot, and what it leaves decided.
 use Rattle.std.proofs.Common.{◌≡◌, ℕ, ◌+◌, ◌<◌, ◌≤◌, Bool, true, false, cond, eqb, [], ◌∷◌, length, get_or, set, is_some, Some, None, count_by, Option, sym, refl, ap, ◌∙◌, subst, ⊎_elim, zero-le, not-suc-le-zero, arith}
+use Rattle.std.specs.List.{find}
+use Rattle.std.specs.Option.{option_flatten}
+use Rattle.std.proofs.lemmas.List.Folds.{list_all_at}
 use Rattle.std.proofs.lemmas.List.{length-set, set_past, get_or-set_other}
-use Rattle.std.proofs.lemmas.List.Sums.{sum_by-cons, sum_by-set, count_by-le-length}
+use Rattle.std.proofs.lemmas.List.Sums.{sum_by-cons, sum_by-set}
 use Rattle.std.proofs.lemmas.Bool.{true≢false, both_ways, leb-true, le-leb, eqb-true, cases_eq, cases_lt, cases_Bool, cond-true, cond-false, and_parts, not-true}
 use Rattle.std.proofs.lemmas.Bool.Decides.{nat_tests}
 use Rattle.votes.specs.declared.slot.Outcome.TheVariants.{Open}
@@ -32,7 +35,7 @@ one_majority vs m n a b = ⊎_elim (λ e. e) (λ ne. absurd (let both = votes_ap
 winner_wins : (vs more : Votes) (n : ℕ) → winner vs more ≡ Some n → wins vs (Some n) ≡ true
 winner_wins vs [] n e = let z : ◌≡◌ {A = ℕ} 0 1 = cc in absurd (let f : ⊥ = omega arith in f)
 winner_wins vs (v ∷ more) n e =
-    ⊎_elim (λ b. subst (λ (x : Option ℕ). wins vs x ≡ true) (sym (cond-true _ _ _ b) ∙ e) b) (λ b. winner_wins vs more n (sym (cond-false _ _ _ b) ∙ e)) (cases_Bool (wins vs v))
+    ⊎_elim (λ b. subst (λ (x : Option ℕ). wins vs x ≡ true) (sym (ap option_flatten (cond-true (wins vs v) (Some v) (find (wins vs) more) b)) ∙ e) b) (λ b. winner_wins vs more n (sym (ap option_flatten (cond-false (wins vs v) (Some v) (find (wins vs) more) b)) ∙ e)) (cases_Bool (wins vs v))
 
 won_by : (vs : Votes) (n : ℕ) → majority vs ≤ votes_for n vs → (v : Option ℕ) → wins vs v ≡ true → v ≡ Some n
 won_by vs n h None b = absurd (true≢false (sym b))
@@ -45,8 +48,8 @@ not_for vs n h (Some m) b = cond-false _ _ _ (⊎_elim (λ e. absurd (both_ways 
 winner_is : (vs : Votes) (n : ℕ) → majority vs ≤ votes_for n vs → (more : Votes) → 0 < votes_for n more → winner vs more ≡ Some n
 winner_is vs n h [] some = absurd (not-suc-le-zero some)
 winner_is vs n h (v ∷ more) some =
-    ⊎_elim (λ b. cond-true _ _ _ b ∙ won_by vs n h v b)
-    (λ b. cond-false _ _ _ b ∙ winner_is vs n h more (omega (arith, sum_by-cons (λ x. one (is_for n x)) v more, not_for vs n h v b)))
+    ⊎_elim (λ b. ap option_flatten (cond-true (wins vs v) (Some v) (find (wins vs) more) b) ∙ won_by vs n h v b)
+    (λ b. ap option_flatten (cond-false (wins vs v) (Some v) (find (wins vs) more) b) ∙ winner_is vs n h more (omega (arith, sum_by-cons (λ x. one (is_for n x)) v more, not_for vs n h v b)))
     (cases_Bool (wins vs v))
 
 pub locked_has : (vs : Votes) (n : ℕ) → locked vs ≡ Some n → majority vs ≤ votes_for n vs
@@ -72,8 +75,7 @@ locked_kept vs g m n e l = locked_by (set vs g (Some n)) m (omega (arith, locked
 
 -- where all have voted there is no first vote
 none_left : (vs : Votes) (g n : ℕ) → is_some (get_or vs g None) ≡ false → all_voted vs ≡ true → length vs ≤ g
-none_left vs g n e all =
-    ⊎_elim (λ h. absurd (let f : ⊥ = omega (arith, eqb-true _ _ all, count_set is_some refl vs g (Some n) e h, count_by-le-length (is_some {T = ℕ}) (set vs g (Some n)), length-set vs g (Some n)) in f)) (λ h. h) (cases_lt g (length vs))
+none_left vs g n e all = ⊎_elim (λ h. absurd (both_ways _ (list_all_at (is_some {T = ℕ}) vs g None h e) all)) (λ h. h) (cases_lt g (length vs))
 
 pub closed_kept : (vs : Votes) (g n : ℕ) → is_some (get_or vs g None) ≡ false → closed vs ≡ true → closed (set vs g (Some n)) ≡ true
 closed_kept vs g n e c = ap closed (set_past vs g (Some n) (none_left vs g n e (and_parts (all_voted vs) _ c).0)) ∙ c

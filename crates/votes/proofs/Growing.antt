@@ -1,54 +1,52 @@
 -- One more vote in the table, and how the line grows.
-use Rattle.std.proofs.Common.{◌≡◌, ℕ, zero, suc, ◌+◌, ◌<◌, ◌≤◌, Bool, true, false, cond, not, ◌&&◌, ltb, ◌≢◌, List, [], ◌∷◌, ◌++◌, length, get_or, take, drop, set, is_some, Some, None, count_by, Option, sym, refl, ap, ◌∙◌, subst, ⊎_elim, append_assoc, suc-le-suc, zero-le, not-suc-le-zero, zero-add, one-add, arith}
-use Rattle.std.specs.List.{AllByRecursion}
-use Rattle.std.proofs.lemmas.List.{get_or-set_same, get_or-set_other, length-set, length-take-le, append-nil, at_drop_more, at_drop_all, take_at, take_more_set, length-replicate}
-use Rattle.std.proofs.ByRecursion.{All-get_or}
+use Rattle.std.proofs.Common.{◌≡◌, ℕ, zero, suc, ◌+◌, ◌<◌, ◌≤◌, Bool, true, false, cond, ltb, ◌≢◌, List, [], ◌∷◌, ◌++◌, length, get_or, take, drop, set, is_some, Some, None, Option, sym, refl, ap, ◌∙◌, subst, ⊎_elim, append_assoc, suc-le-suc, zero-le, not-suc-le-zero, zero-add, one-add, arith}
+use Rattle.std.specs.List.{find}
+use Rattle.std.specs.Option.{option_flatten}
+use Rattle.std.proofs.lemmas.List.{get_or-set_same, get_or-set_other, length-set, length_push, length-append, append-nil, at_drop_more, at_drop_all, take_at}
 use Rattle.std.proofs.lemmas.List.Sums.{prefix_len-drop_yes as leading-drop-yes, prefix_len-drop_no, prefix_len-drop_all, prefix_len-le-length}
-use Rattle.std.proofs.lemmas.Bool.{true≢false, ltb-true, lt-ltb, cases_eq, cases_lt, cases_Bool, cond_both, cond-true, cond-false, and_parts, and_left, not-true, ne_eqb}
+use Rattle.std.proofs.lemmas.Bool.{true≢false, ltb-true, lt-ltb, cases_eq, cases_lt, cases_Bool, cond_both, cond-true, cond-false, and_parts, not-true}
 use Rattle.votes.specs.declared.slot.Outcome.{Outcome}
 use Rattle.votes.specs.declared.slot.Outcome.TheVariants.{Open, Locked, Closed}
+use Rattle.votes.specs.declared.vote.Vote.{Vote}
 use Rattle.votes.specs.Slots.{Votes, wins, winner, locked, closed, outcome_by, outcome_of}
-use Rattle.votes.specs.Tables.{Table, line_from, line_of, gateway_of, slot_of, number_of, vote_at, is_valid, after_vote, after_votes, no_votes, empty_table}
+use Rattle.votes.specs.Tables.{Table, line_from, line_of, vote_of, vote_at, is_valid_vote, after_cast, after_vote, after_votes, no_votes, empty_table}
 use Rattle.votes.specs.Kept.{is_decided, first_open, is_known, Known, Written, Cached}
 use Rattle.votes.proofs.Deciding.{outcome_kept}
 
 -- what a valid vote tells
-pub valid_parts : (g count : ℕ) (t : Table) (w : ℕ) → is_valid g count t w ≡ true → (gateway_of w < g) × (slot_of w < length t) × (number_of w < count) × (is_some (vote_at t (slot_of w) (gateway_of w)) ≡ false)
-valid_parts g count t w e =
-    let a = and_parts (ltb (gateway_of w) g) _ e in
-    let b = and_parts (ltb (slot_of w) (length t)) _ a.1 in
-    let c = and_parts (ltb (number_of w) count) _ b.1 in
+pub valid_parts : (g count : ℕ) (t : Table) (v : Vote) → is_valid_vote g count t v ≡ true → (v.gateway < g) × (v.slot < length t) × (v.number < count) × (is_some (vote_at t v.slot v.gateway) ≡ false)
+valid_parts g count t v e =
+    let a = and_parts (ltb v.gateway g) _ e in
+    let b = and_parts (ltb v.slot (length t)) _ a.1 in
+    let c = and_parts (ltb v.number count) _ b.1 in
     (ltb-true _ _ a.0, ltb-true _ _ b.0, ltb-true _ _ c.0, not-true _ c.1)
 
-pub valid_by : (g count : ℕ) (t : Table) (w : ℕ) (voted : Bool) → gateway_of w < g → slot_of w < length t → number_of w < count → voted ≡ is_some (vote_at t (slot_of w) (gateway_of w)) → not voted ≡ is_valid g count t w
-valid_by g count t w voted a b c e = ap not e ∙ sym (ap (λ (x : Bool). x && (ltb (slot_of w) (length t) && (ltb (number_of w) count && not (is_some (vote_at t (slot_of w) (gateway_of w)))))) (lt-ltb _ _ a) ∙ (ap (λ (x : Bool). x && (ltb (number_of w) count && not (is_some (vote_at t (slot_of w) (gateway_of w))))) (lt-ltb _ _ b) ∙ ap (λ (x : Bool). x && not (is_some (vote_at t (slot_of w) (gateway_of w)))) (lt-ltb _ _ c)))
-
 -- after a vote a slot is as before, or has one first vote more
-pub slot_after : (P : Votes → Type 0) (g count : ℕ) (t : Table) (w k : ℕ) → P (get_or t k []) → (is_valid g count t w ≡ true → is_some (get_or (get_or t k []) (gateway_of w) None) ≡ false → P (set (get_or t k []) (gateway_of w) (Some (number_of w)))) → P (get_or (after_vote g count t w) k [])
-slot_after P g count t w k same more =
-    let s = slot_of w in
-    let new : ℕ → Votes = λ i. set (get_or t i []) (gateway_of w) (Some (number_of w)) in
-    cond_both (is_valid g count t w) _ _ (λ (x : Table). P (get_or x k []))
+pub slot_after : (P : Votes → Type 0) (g count : ℕ) (t : Table) (v : Vote) (k : ℕ) → P (get_or t k []) → (is_valid_vote g count t v ≡ true → is_some (get_or (get_or t k []) v.gateway None) ≡ false → P (set (get_or t k []) v.gateway (Some v.number))) → P (get_or (after_cast g count t v) k [])
+slot_after P g count t v k same more =
+    let s = v.slot in
+    let new : ℕ → Votes = λ i. set (get_or t i []) v.gateway (Some v.number) in
+    cond_both (is_valid_vote g count t v) _ _ (λ (x : Table). P (get_or x k []))
     (λ b.
-    let a = valid_parts g count t w b in
+    let a = valid_parts g count t v b in
     ⊎_elim
     (λ e.
     subst P (sym (ap (λ (i : ℕ). get_or (set t s (new s)) i []) e ∙ (get_or-set_same t s (new s) [] a.1 ∙ ap new (sym e))))
-    (more b (subst (λ (i : ℕ). is_some (get_or (get_or t i []) (gateway_of w) None) ≡ false) (sym e) a.3)))
+    (more b (subst (λ (i : ℕ). is_some (get_or (get_or t i []) v.gateway None) ≡ false) (sym e) a.3)))
     (λ ne. subst P (sym (get_or-set_other t s k (new s) [] ne)) same) (cases_eq k s))
     (λ b. same)
 
-pub length_after : (g count : ℕ) (t : Table) (w : ℕ) → length (after_vote g count t w) ≡ length t
-length_after g count t w = cond_both (is_valid g count t w) _ _ (λ (x : Table). length x ≡ length t) (λ b. length-set t (slot_of w) _) (λ b. refl)
+pub length_after : (g count : ℕ) (t : Table) (v : Vote) → length (after_cast g count t v) ≡ length t
+length_after g count t v = cond_both (is_valid_vote g count t v) _ _ (λ (x : Table). length x ≡ length t) (λ b. length-set t v.slot _) (λ b. refl)
 
 -- what a first vote keeps of a slot, all votes keep
 pub slot_stays : (P : Votes → Type 0) → ((vs : Votes) (j n : ℕ) → is_some (get_or vs j None) ≡ false → P vs → P (set vs j (Some n))) → (g : ℕ) (t : Table) (ws : List (ℕ × ℕ)) (k : ℕ) → P (get_or t k []) → P (get_or (after_votes g t ws) k [])
 slot_stays P step g t [] k p = p
-slot_stays P step g t (w ∷ ws) k p = slot_stays P step g (after_vote g w.0 t w.1) ws k (slot_after P g w.0 t w.1 k p (λ b e. step (get_or t k []) _ _ e p))
+slot_stays P step g t (w ∷ ws) k p = slot_stays P step g (after_vote g w.0 t w.1) ws k (slot_after P g w.0 t (vote_of w.1) k p (λ b e. step (get_or t k []) _ _ e p))
 
 pub length_stays : (g : ℕ) (t : Table) (ws : List (ℕ × ℕ)) → length (after_votes g t ws) ≡ length t
 length_stays g t [] = refl
-length_stays g t (w ∷ ws) = length_stays g (after_vote g w.0 t w.1) ws ∙ length_after g w.0 t w.1
+length_stays g t (w ∷ ws) = length_stays g (after_vote g w.0 t w.1) ws ∙ length_after g w.0 t (vote_of w.1)
 
 pub outcome_stays : (g : ℕ) (t : Table) (ws : List (ℕ × ℕ)) (k : ℕ) → (outcome_of (get_or t k []) ≡ Open → ⊥) → outcome_of (get_or (after_votes g t ws) k []) ≡ outcome_of (get_or t k [])
 outcome_stays g t ws k shut =
@@ -127,11 +125,6 @@ is_open Open e = refl
 is_open (Locked n) e = absurd (true≢false e)
 is_open Closed e = absurd (true≢false e)
 
-pub is_closed : (o : Outcome) → is_decided o ≡ true → ((n : ℕ) → o ≡ Locked n → ⊥) → o ≡ Closed
-is_closed Open e ne = absurd (true≢false (sym e))
-is_closed (Locked n) e ne = absurd (ne n refl)
-is_closed Closed e ne = refl
-
 -- the first open slot is open
 open_at : (t : Table) → first_open t < length t → outcome_of (get_or t (first_open t) []) ≡ Open
 open_at t h =
@@ -147,48 +140,56 @@ one_slot t at o h e = at_drop_more line_of t at [] h ∙ ap (λ (x : Outcome). l
 one_decided : (t : Table) (at : ℕ) (o : Outcome) → at < length t → o ≡ outcome_of (get_or t at []) → is_decided o ≡ true → first_open (drop at t) ≡ 1 + first_open (drop (at + 1) t)
 one_decided t at o h e b = leading-drop-yes (λ (vs : Votes). is_decided (outcome_of vs)) t at [] h (ap is_decided (sym e) ∙ b)
 
-pub written_closed : (t : Table) (memory : List ℕ) (len at : ℕ) → at < length t → Closed ≡ outcome_of (get_or t at []) → Written t memory len at → Written t memory len (at + 1)
-written_closed t memory len at h e i =
+pub written_as : (t t' : Table) (line line' : List ℕ) (at : ℕ) → t' ≡ t → line' ≡ line → Written t line at → Written t' line' at
+written_as t t' line line' at e f i = subst (λ (x : Table). Written x line' at) (sym e) (subst (λ (xs : List ℕ). Written t xs at) (sym f) i)
+
+pub written_closed : (t : Table) (line : List ℕ) (at : ℕ) → at < length t → Closed ≡ outcome_of (get_or t at []) → Written t line at → Written t line (at + 1)
+written_closed t line at h e i =
     let f = one_decided t at Closed h e refl in
-    (ap (λ (ys : List ℕ). take len memory ++ ys) (sym (one_slot t at Closed h e)) ∙ i.0, omega (arith, i.1), omega (arith, i.2), omega arith)
+    (ap (λ (ys : List ℕ). line ++ ys) (sym (one_slot t at Closed h e)) ∙ i.0, omega (arith, i.1), omega (arith, i.2), omega arith)
 
-pub written_locked : (t : Table) (memory : List ℕ) (len at n : ℕ) → at < length t → len < length memory → Locked n ≡ outcome_of (get_or t at []) → Written t memory len at → Written t (set memory len n) (len + 1) (at + 1)
-written_locked t memory len at n h l e i =
+pub written_locked : (t : Table) (line : List ℕ) (at n : ℕ) → at < length t → Locked n ≡ outcome_of (get_or t at []) → Written t line at → Written t (line ++ (n ∷ [])) (at + 1)
+written_locked t line at n h e i =
     let f = one_decided t at (Locked n) h e refl in
-    (rw (take_more_set memory len n l, append_assoc) (ap (λ (ys : List ℕ). take len memory ++ ys) (sym (one_slot t at (Locked n) h e)) ∙ i.0), omega (arith, i.1), omega (arith, i.2), omega arith)
-
-pub written_as : (t : Table) (memory memory' : List ℕ) (len len' at : ℕ) → memory' ≡ memory → len' ≡ len → Written t memory len at → Written t memory' len' at
-written_as t memory memory' len len' at e f i = subst (λ (m : List ℕ). Written t m len' at) (sym e) (subst (λ (n : ℕ). Written t memory n at) (sym f) i)
+    (rw append_assoc (ap (λ (ys : List ℕ). line ++ ys) (sym (one_slot t at (Locked n) h e)) ∙ i.0), omega (arith, i.1), omega (arith, i.2, length_push line n), omega arith)
 
 -- the line is written once the next slot is open or there is none
-pub written_all : (t : Table) (memory : List ℕ) (len at : ℕ) → len ≤ length memory → (at < length t → outcome_of (get_or t at []) ≡ Open) → Written t memory len at → Cached t memory len at
-written_all t memory len at l h i =
+pub written_all : (t : Table) (line : List ℕ) (at : ℕ) → (at < length t → outcome_of (get_or t at []) ≡ Open) → Written t line at → Cached t line at
+written_all t line at h i =
     let z = ends_at t at h in
-    let line : take len memory ≡ line_of t = sym (append-nil _) ∙ (ap (λ (ys : List ℕ). take len memory ++ ys) (sym z.0) ∙ i.0) in
-    (line, omega (arith, i.1, z.1), sym (length-take-le len memory l) ∙ ap length line)
+    (sym (append-nil _) ∙ (ap (λ (ys : List ℕ). line ++ ys) (sym z.0) ∙ i.0), omega (arith, i.1, z.1))
 
 -- a vote in the first open slot leaves the line to be written on, and a vote in another leaves it as it is
-outcomes_after : (g count : ℕ) (t : Table) (w k : ℕ) → k < first_open t → outcome_of (get_or (after_vote g count t w) k []) ≡ outcome_of (get_or t k [])
-outcomes_after g count t w k h =
-    slot_after (λ (vs : Votes). outcome_of vs ≡ outcome_of (get_or t k [])) g count t w k refl (λ b e. outcome_kept (get_or t k []) _ _ e (before_open t k h))
+outcomes_after : (g count : ℕ) (t : Table) (v : Vote) (k : ℕ) → k < first_open t → outcome_of (get_or (after_cast g count t v) k []) ≡ outcome_of (get_or t k [])
+outcomes_after g count t v k h =
+    slot_after (λ (vs : Votes). outcome_of vs ≡ outcome_of (get_or t k [])) g count t v k refl (λ b e. outcome_kept (get_or t k []) _ _ e (before_open t k h))
 
-pub written_after : (g count : ℕ) (t : Table) (w : ℕ) (memory : List ℕ) (len at : ℕ) → Cached t memory len at → Written (after_vote g count t w) memory len at
-written_after g count t w memory len at i =
-    let t' = after_vote g count t w in
-    let e = grow t t' (length_after g count t w) (outcomes_after g count t w) in (
+cast_grows : (g count : ℕ) (t : Table) (v : Vote) → Grown (after_cast g count t v) (first_open t) (line_of t)
+cast_grows g count t v = grow t (after_cast g count t v) (length_after g count t v) (outcomes_after g count t v)
+
+pub cast_begins : (g count : ℕ) (t : Table) (v : Vote) → take (length (line_of t)) (line_of (after_cast g count t v)) ≡ line_of t
+cast_begins g count t v = ap (take (length (line_of t))) (cast_grows g count t v).0 ∙ take_at (line_of t) _ _ refl
+
+pub cast_longer : (g count : ℕ) (t : Table) (v : Vote) → length (line_of t) ≤ length (line_of (after_cast g count t v))
+cast_longer g count t v = omega (arith, ap length (cast_grows g count t v).0, length-append (line_of t) (line_of (drop (first_open t) (after_cast g count t v))))
+
+pub written_after : (g count : ℕ) (t : Table) (v : Vote) (line : List ℕ) (at : ℕ) → Cached t line at → Written (after_cast g count t v) line at
+written_after g count t v line at i =
+    let t' = after_cast g count t v in
+    let e = cast_grows g count t v in (
       ap (λ (xs : List ℕ). xs ++ line_of (drop at t')) i.0 ∙ (ap (λ (k : ℕ). line_of t ++ line_of (drop k t')) i.1 ∙ sym e.0),
       ap (λ (k : ℕ). k + first_open (drop k t')) i.1 ∙ sym e.1,
-      omega (arith, i.1, i.2, line_le t),
-      omega (arith, i.1, open_le t, length_after g count t w),
+      omega (arith, i.1, ap length i.0, line_le t),
+      omega (arith, i.1, open_le t, length_after g count t v),
     )
 
-pub cached_after : (g count : ℕ) (t : Table) (w : ℕ) (memory : List ℕ) (len at : ℕ) → len ≤ length memory → slot_of w ≢ at → Cached t memory len at → Cached (after_vote g count t w) memory len at
-cached_after g count t w memory len at l ne i =
-    written_all (after_vote g count t w) memory len at l
+pub cached_after : (g count : ℕ) (t : Table) (v : Vote) (line : List ℕ) (at : ℕ) → v.slot ≢ at → Cached t line at → Cached (after_cast g count t v) line at
+cached_after g count t v line at ne i =
+    written_all (after_cast g count t v) line at
     (λ h.
-    cond_both (is_valid g count t w) _ _ (λ (x : Table). outcome_of (get_or x at []) ≡ Open)
-    (λ b. ap outcome_of (get_or-set_other t (slot_of w) at _ [] (λ e. ne (sym e))) ∙ still (omega (arith, h, length_after g count t w))) (λ b. still (omega (arith, h, length_after g count t w))))
-    (written_after g count t w memory len at i)
+    cond_both (is_valid_vote g count t v) _ _ (λ (x : Table). outcome_of (get_or x at []) ≡ Open)
+    (λ b. ap outcome_of (get_or-set_other t v.slot at _ [] (λ e. ne (sym e))) ∙ still (omega (arith, h, length_after g count t v))) (λ b. still (omega (arith, h, length_after g count t v))))
+    (written_after g count t v line at i)
   where
     still : at < length t → outcome_of (get_or t at []) ≡ Open
     still h = subst (λ (k : ℕ). k < length t → outcome_of (get_or t k []) ≡ Open) (sym i.1) (open_at t) h
@@ -197,19 +198,16 @@ cached_after g count t w memory len at l ne i =
 winner_known : (count : ℕ) (vs more : Votes) (n : ℕ) → ((j : ℕ) → is_known count (get_or more j None) ≡ true) → winner vs more ≡ Some n → n < count
 winner_known count vs [] n h e = let z : ◌≡◌ {A = ℕ} 0 1 = cc in omega arith
 winner_known count vs (v ∷ more) n h e =
-    ⊎_elim (λ b. ltb-true n count (subst (λ (x : Option ℕ). is_known count x ≡ true) (sym (cond-true _ _ _ b) ∙ e) (h 0))) (λ b. winner_known count vs more n (λ j. h (suc j)) (sym (cond-false _ _ _ b) ∙ e)) (cases_Bool (wins vs v))
+    ⊎_elim (λ b. ltb-true n count (subst (λ (x : Option ℕ). is_known count x ≡ true) (sym (ap option_flatten (cond-true (wins vs v) (Some v) (find (wins vs) more) b)) ∙ e) (h 0)))
+    (λ b. winner_known count vs more n (λ j. h (suc j)) (sym (ap option_flatten (cond-false (wins vs v) (Some v) (find (wins vs) more) b)) ∙ e)) (cases_Bool (wins vs v))
 
-from_known : (count : ℕ) (o : Option ℕ) (b : Bool) (xs : List ℕ) → ((n : ℕ) → o ≡ Some n → n < count) → AllByRecursion (λ (n : ℕ). n < count) xs → AllByRecursion (λ (n : ℕ). n < count) (line_from (outcome_by o b) xs)
-from_known count (Some n) b xs h low = (h n refl, low)
-from_known count None true xs h low = low
-from_known count None false xs h low = tt
+by_locked : (o : Option ℕ) (b : Bool) (n : ℕ) → outcome_by o b ≡ Locked n → o ≡ Some n
+by_locked (Some m) b n e = cc
+by_locked None true n e = cc
+by_locked None false n e = cc
 
-line_known : (count : ℕ) (t : Table) → Known count t → AllByRecursion (λ (n : ℕ). n < count) (line_of t)
-line_known count [] h = tt
-line_known count (vs ∷ t) h = from_known count (locked vs) (closed vs) (line_of t) (λ n e. winner_known count vs vs n (h 0) e) (line_known count t (λ k. h (suc k)))
-
-pub line_below : (count : ℕ) (t : Table) → Known count t → (i : ℕ) → i < length (line_of t) → get_or (line_of t) i 0 < count
-line_below count t h i l = All-get_or (λ (n : ℕ). n < count) (line_of t) i 0 l (line_known count t h)
+pub locked_known : (count : ℕ) (t : Table) (at n : ℕ) → Known count t → outcome_of (get_or t at []) ≡ Locked n → n < count
+locked_known count t at n h e = let vs = get_or t at [] in winner_known count vs vs n (h at) (by_locked (locked vs) (closed vs) n e)
 
 set_known : (count : ℕ) (vs : Votes) (i n : ℕ) → n < count → ((j : ℕ) → is_known count (get_or vs j None) ≡ true) → (j : ℕ) → is_known count (get_or (set vs i (Some n)) j None) ≡ true
 set_known count [] i n l h j = refl
@@ -218,17 +216,10 @@ set_known count (v ∷ vs) zero n l h (suc j) = h (suc j)
 set_known count (v ∷ vs) (suc i) n l h zero = h 0
 set_known count (v ∷ vs) (suc i) n l h (suc j) = set_known count vs i n l (λ k. h (suc k)) j
 
-pub known_after : (g count : ℕ) (t : Table) (w : ℕ) → Known count t → Known count (after_vote g count t w)
-known_after g count t w h k =
-    slot_after (λ (vs : Votes). (j : ℕ) → is_known count (get_or vs j None) ≡ true) g count t w k (h k)
-    (λ b e. set_known count (get_or t k []) (gateway_of w) (number_of w) (valid_parts g count t w b).2 (h k))
-
-pub known_more : (count : ℕ) (t : Table) → Known count t → Known (count + 1) t
-known_more count t h k j = more (vote_at t k j) (h k j)
-  where
-    more : (v : Option ℕ) → is_known count v ≡ true → is_known (count + 1) v ≡ true
-    more None b = refl
-    more (Some n) b = lt-ltb n (count + 1) (omega (arith, ltb-true n count b))
+pub known_after : (g count : ℕ) (t : Table) (v : Vote) → Known count t → Known count (after_cast g count t v)
+known_after g count t v h k =
+    slot_after (λ (vs : Votes). (j : ℕ) → is_known count (get_or vs j None) ≡ true) g count t v k (h k)
+    (λ b e. set_known count (get_or t k []) v.gateway v.number (valid_parts g count t v b).2 (h k))
 
 -- the table without votes
 pub no_vote_at : (g slots slot gateway : ℕ) → vote_at (empty_table g slots) slot gateway ≡ None
@@ -248,20 +239,12 @@ none_wins : (vs : Votes) (g : ℕ) → winner vs (no_votes g) ≡ None
 none_wins vs zero = refl
 none_wins vs (suc g) = none_wins vs g
 
-none_counts : (g : ℕ) → count_by (is_some {T = ℕ}) (no_votes g) ≡ 0
-none_counts zero = refl
-none_counts (suc g) = none_counts g
-
 none_open : (g : ℕ) → 0 < g → outcome_of (no_votes g) ≡ Open
-none_open g h =
-    let unlocked : locked (no_votes g) ≡ None = none_wins (no_votes g) g in
-    let l : length (no_votes g) ≡ g = length-replicate g None in
-    let c : closed (no_votes g) ≡ false = and_left _ _ (ne_eqb (count_by (is_some {T = ℕ}) (no_votes g)) (length (no_votes g)) (λ e. omega (arith, none_counts g))) in
-    ap (λ (o : Option ℕ). outcome_by o (closed (no_votes g))) unlocked ∙ cond-false _ _ _ c
+none_open zero h = absurd (not-suc-le-zero h)
+none_open (suc g) h = ap (λ (o : Option ℕ). outcome_by o false) (none_wins (no_votes (suc g)) (suc g))
 
-pub empty_cached : (g slots : ℕ) (memory : List ℕ) → (0 < slots → 0 < g) → Cached (empty_table g slots) memory 0 0
-empty_cached g zero memory h = (refl, refl, refl)
-empty_cached g (suc slots) memory h =
+pub empty_cached : (g slots : ℕ) → (0 < slots → 0 < g) → Cached (empty_table g slots) [] 0
+empty_cached g zero h = (refl, refl)
+empty_cached g (suc slots) h =
     let e = none_open g (h (suc-le-suc zero-le)) in
-    let line : line_of (empty_table g (suc slots)) ≡ [] = ap (λ (o : Outcome). line_from o (line_of (empty_table g slots))) e in
-    (sym line, sym (ap (λ (o : Outcome). cond (is_decided o) (1 + first_open (empty_table g slots)) 0) e), sym (ap length line))
+    (sym (ap (λ (o : Outcome). line_from o (line_of (empty_table g slots))) e), sym (ap (λ (o : Outcome). cond (is_decided o) (1 + first_open (empty_table g slots)) 0) e))

@@ -1,4 +1,3 @@
 pub mod Deciding
 pub mod Growing
 pub mod Memory
-pub mod Facts

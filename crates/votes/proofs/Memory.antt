@@ -2,10 +2,10 @@
 use Rattle.std.proofs.Common.{◌≡◌, ℕ, ◌<◌, ◌≤◌, List, [], length, get_or, take, set, replicate, Some, None, sym, ap, ◌∙◌}
 use lib.LanesLaws.{map-replicate}
 use lib.Seq.{take-set-lt}
-use Rattle.std.proofs.lemmas.List.{get_or-map, get_or-take, length-map, map-set, take-replicate, length-replicate}
+use Rattle.std.proofs.lemmas.List.{get_or-map, length-map, map-set, take-replicate}
 use Rattle.votes.specs.declared.slot.Slot.{Slot}
 use Rattle.votes.specs.Slots.{Votes}
-use Rattle.votes.specs.Tables.{vote_at, with_vote, empty_table}
+use Rattle.votes.specs.Tables.{with_vote, empty_table}
 use Rattle.votes.specs.Kept.{table_of, empty_slot}
 
 abbrev pub blank : Slot
@@ -17,17 +17,10 @@ length_table g memory = length-map memory _
 pub slot_in : (g : ℕ) (memory : List Slot) (k : ℕ) → k < length memory → get_or (table_of g memory) k [] ≡ take g (get_or memory k blank).votes
 slot_in g memory k h = get_or-map (λ (slot : Slot). take g slot.votes) memory k blank [] h
 
-pub vote_in : (g : ℕ) (memory : List Slot) (k j : ℕ) → k < length memory → j < g → vote_at (table_of g memory) k j ≡ get_or (get_or memory k blank).votes j None
-vote_in g memory k j h l = ap (λ (vs : Votes). get_or vs j None) (slot_in g memory k h) ∙ get_or-take g (get_or memory k blank).votes j None l
-
 pub vote_stored : (g : ℕ) (memory : List Slot) (k j n : ℕ) → k < length memory → j < g → table_of g (set memory k (record { votes = set (get_or memory k blank).votes j (Some n) })) ≡ with_vote (table_of g memory) k j n
 vote_stored g memory k j n h l =
     map-set (λ (slot : Slot). take g slot.votes) memory k _
     ∙ ap (λ (vs : Votes). set (table_of g memory) k vs) (take-set-lt g (get_or memory k blank).votes j (Some n) l ∙ ap (λ (vs : Votes). set vs j (Some n)) (sym (slot_in g memory k h)))
 
-table_cleared : (g slots : ℕ) → g ≤ 8 → table_of g (replicate slots empty_slot) ≡ empty_table g slots
+pub table_cleared : (g slots : ℕ) → g ≤ 8 → table_of g (replicate slots empty_slot) ≡ empty_table g slots
 table_cleared g slots h = map-replicate (λ (slot : Slot). take g slot.votes) slots empty_slot ∙ ap (λ (vs : Votes). replicate slots vs) (take-replicate g 8 None h)
-
-pub table_empty : (g n slots : ℕ) (memory : List Slot) → memory ≡ replicate n empty_slot → length memory ≡ slots → g ≤ 8 → table_of g memory ≡ empty_table g slots
-table_empty g n slots memory e l h =
-    ap (table_of g) (e ∙ ap (λ (k : ℕ). replicate k empty_slot) (sym (length-replicate n empty_slot) ∙ (sym (ap length e) ∙ l))) ∙ table_cleared g slots h

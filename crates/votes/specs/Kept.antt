@@ -1,5 +1,5 @@
 -- What the vote table keeps true of its memory.
-use Rattle.std.specs.Prelude.{◌≡◌, ℕ, ◌+◌, ◌<◌, ◌≤◌, Bool, true, false, List, ◌++◌, map, length, take, drop, replicate, Some, None, Option, nat_lt, slice_index}
+use Rattle.std.specs.Prelude.{◌≡◌, ℕ, ◌+◌, ◌≤◌, Bool, true, false, List, ◌++◌, map, length, take, drop, replicate, Some, None, Option, nat_lt}
 use Rattle.std.specs.List.{prefix_len}
 use Rattle.votes.specs.declared.slot.Slot.{Slot}
 use Rattle.votes.specs.declared.slot.Outcome.{Outcome}
@@ -34,18 +34,10 @@ is_known count (Some n) = nat_lt n count
 abbrev pub Known : ℕ → Table → Type 0
 Known count t = (slot gateway : ℕ) → is_known count (vote_at t slot gateway) ≡ true
 
--- the slots before `at` are decided, and the first `len` numbers in memory are what they add to the line
-abbrev pub Written : Table → List ℕ → ℕ → ℕ → Type 0
-Written t memory len at = (take len memory ++ line_of (drop at t) ≡ line_of t) × (at + first_open (drop at t) ≡ first_open t) × (len ≤ at) × (at ≤ length t)
+-- the slots before `at` are decided, and the line so far is what they add to it
+abbrev pub Written : Table → List ℕ → ℕ → Type 0
+Written t line at = (line ++ line_of (drop at t) ≡ line_of t) × (at + first_open (drop at t) ≡ first_open t) × (length line ≤ at) × (at ≤ length t)
 
--- the first `len` numbers in memory are the line, and `at` is the first open slot
-abbrev pub Cached : Table → List ℕ → ℕ → ℕ → Type 0
-Cached t memory len at = (take len memory ≡ line_of t) × (at ≡ first_open t) × (len ≡ length (line_of t))
-
--- every number in a line is below the count
-abbrev pub AllBelow : ℕ → List ℕ → Type 0
-AllBelow count line = (i : ℕ) → i < length line → slice_index line i < count
-
--- no gateway's place passes the line's end
-abbrev pub PlacesWithin : ℕ → List ℕ → List ℕ → Type 0
-PlacesWithin gateways line places = (g : ℕ) → g < gateways → slice_index places g ≤ length line
+-- the line is that of the table, and `at` is the first open slot
+abbrev pub Cached : Table → List ℕ → ℕ → Type 0
+Cached t line at = (line ≡ line_of t) × (at ≡ first_open t)

@@ -1,12 +1,9 @@
 -- What the checking call refuses.
-use Rattle.std.specs.Prelude.{ℕ, Bool, ◌||◌, [], ◌∷◌, Option, nat_lt}
+use Rattle.std.specs.Prelude.{ℕ, [], ◌∷◌, Option, nat_lt}
 use Rattle.base.specs.declared.refusal.Refusal.{Refusal}
 use Rattle.base.specs.declared.refusal.Refusal.TheVariants.{Limits}
+use Rattle.base.specs.Limits.{outside}
 use Rattle.base.specs.Refusals.{first}
-
--- whether a number is outside its limits
-abbrev pub outside : ℕ → ℕ → ℕ → Bool
-outside least most n = nat_lt n least || nat_lt most n
 
 -- refused are numbers outside their limits, and memory for fewer slots; the last two are the lengths of the memory
 abbrev pub votes_refused : ℕ → ℕ → ℕ → ℕ → ℕ → Option Refusal

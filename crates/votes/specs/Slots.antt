@@ -1,5 +1,7 @@
 -- A slot: the vote of each gateway, and what the votes decide.
-use Rattle.std.specs.Prelude.{ℕ, ◌+◌, ◌/◌, Bool, false, cond, not, ◌&&◌, List, [], ◌∷◌, length, is_some, Some, None, count_by, Option, ◌==◌, nat_le}
+use Rattle.std.specs.Prelude.{ℕ, ◌+◌, ◌/◌, Bool, false, cond, not, ◌&&◌, List, length, is_some, Some, None, count_by, Option, ◌==◌, nat_le}
+use Rattle.std.specs.List.{find, list_all}
+use Rattle.std.specs.Option.{option_flatten}
 use Rattle.votes.specs.declared.slot.Outcome.{Outcome}
 use Rattle.votes.specs.declared.slot.Outcome.TheVariants.{Open, Locked, Closed}
 
@@ -27,8 +29,7 @@ wins vs (Some n) = nat_le (majority vs) (votes_for n vs)
 
 -- the first of some votes that wins
 abbrev pub winner : Votes → Votes → Option ℕ
-winner vs [] = None
-winner vs (v ∷ more) = cond (wins vs v) v (winner vs more)
+winner vs more = option_flatten (find (wins vs) more)
 
 -- the number that the slot is locked on: one that a majority has voted for
 abbrev pub locked : Votes → Option ℕ
@@ -36,7 +37,7 @@ locked vs = winner vs vs
 
 -- whether every gateway has voted
 abbrev pub all_voted : Votes → Bool
-all_voted vs = count_by is_some vs == length vs
+all_voted vs = list_all is_some vs
 
 -- a slot is closed when all have voted and no number has a majority
 abbrev pub closed : Votes → Bool

@@ -3,5 +3,7 @@
 
 pub mod laws;
 pub mod slot;
+mod slots;
 pub mod table;
+mod vote;
 pub mod voting;

@@ -1,6 +1,6 @@
 // One slot of the table: the votes in it, and what they decide.
 ghost use Rattle.std.specs.Prelude.{◌≡◌};
-ghost use Rattle.votes.specs.Slots.{is_for, votes_for, majority as majority-of, wins, locked, all_voted, outcome_of};
+ghost use Rattle.votes.specs.Slots.{votes_for, majority as majority-of, wins, locked, all_voted, outcome_of};
 
 // The vote of each gateway, at the gateway's number.
 #[derive(Clone, Copy)]
@@ -24,27 +24,11 @@ pub enum Outcome {
     Closed,
 }
 
-// Whether the vote is for the number.
-fn is_for(vote: Option<u16>, number: u16) -> bool
-    ensures { result ≡ is_for number vote }
-{
-    match vote {
-        Some(n) => n == number,
-        None => false,
-    }
-}
-
 // How many have voted for the number.
 fn tally(votes: &[Option<u16>], number: u16) -> usize
     ensures { result ≡ votes_for number votes.now }
 {
-    let mut n = 0;
-    for v in votes {
-        if is_for(*v, number) {
-            n += 1;
-        }
-    }
-    n
+    votes.iter().filter(|vote| **vote == Some(number)).count()
 }
 
 // How many votes lock a slot.
@@ -58,35 +42,25 @@ fn majority(votes: &[Option<u16>]) -> usize
 fn has_majority(votes: &[Option<u16>], vote: Option<u16>) -> bool
     ensures { result ≡ wins votes.now vote }
 {
-    match vote {
-        Some(n) => tally(votes, n) >= majority(votes),
-        None => false,
-    }
+    vote.is_some_and(|number| tally(votes, number) >= majority(votes))
 }
 
 // The number that a majority has voted for.
 fn locked_number(votes: &[Option<u16>]) -> Option<u16>
     ensures { result ≡ locked votes.now }
 {
-    for v in votes {
-        if has_majority(votes, *v) {
-            return *v;
-        }
-    }
-    None
+    votes
+        .iter()
+        .find(|vote| has_majority(votes, **vote))
+        .copied()
+        .flatten()
 }
 
 // Whether every gateway has voted.
 fn all_have_voted(votes: &[Option<u16>]) -> bool
     ensures { result ≡ all_voted votes.now }
 {
-    let mut n = 0;
-    for v in votes {
-        if v.is_some() {
-            n += 1;
-        }
-    }
-    n == votes.len()
+    votes.iter().all(|vote| vote.is_some())
 }
 
 // What the votes decide.
@@ -95,12 +69,7 @@ pub fn decide(votes: &[Option<u16>]) -> Outcome
 {
     match locked_number(votes) {
         Some(n) => Outcome::Locked(n),
-        None => {
-            if all_have_voted(votes) {
-                Outcome::Closed
-            } else {
-                Outcome::Open
-            }
-        }
+        None if all_have_voted(votes) => Outcome::Closed,
+        None => Outcome::Open,
     }
 }

@@ -1,4 +1,2 @@
 pub mod Limits
-pub mod Lines
-pub mod Soundness
 pub mod Wires

@@ -1,12 +1,9 @@
 -- The numbers that a wire is made from.
-use Rattle.std.specs.Prelude.{ℕ, Bool, ◌||◌, [], ◌∷◌, Option, nat_lt}
+use Rattle.std.specs.Prelude.{ℕ, [], ◌∷◌, Option, nat_lt}
 use Rattle.base.specs.declared.refusal.Refusal.{Refusal}
 use Rattle.base.specs.declared.refusal.Refusal.TheVariants.{Limits}
+use Rattle.base.specs.Limits.{outside}
 use Rattle.base.specs.Refusals.{first}
-
--- whether n is not one of low to high
-abbrev pub outside : ℕ → ℕ → ℕ → Bool
-outside low high n = nat_lt n low || nat_lt high n
 
 -- why no wire is made from these numbers over so much memory
 abbrev pub wire_refused : ℕ → ℕ → ℕ → ℕ → Option Refusal

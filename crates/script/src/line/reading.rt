@@ -2,6 +2,7 @@
 ghost use Rattle.std.specs.Prelude.{◌≡◌, ℕ, List};
 ghost use Rattle.script.specs.Lines.{kept, nothing, keep, blank, keep_all, without_return, before_end, within_64, kept_row, gives};
 
+use crate::buffer::Buffer;
 use crate::fault::TooLong;
 use crate::line::{End, Line};
 
@@ -11,9 +12,7 @@ impl Line {
         ensures { kept result ≡ nothing }
     {
         Line {
-            bytes: [0; 65],
-            len: 0,
-            more: false,
+            bytes: Ok(Buffer::new()),
         }
     }
 
@@ -21,11 +20,10 @@ impl Line {
     pub fn push(&mut self, byte: u8)
         ensures { kept self.new ≡ keep (kept self.old) byte }
     {
-        if self.len < 65 {
-            self.bytes[self.len] = byte;
-            self.len += 1;
-        } else {
-            self.more = true;
+        if let Ok(bytes) = &mut self.bytes {
+            if bytes.push(byte).is_err() {
+                self.bytes = Err(TooLong);
+            }
         }
     }
 
@@ -33,15 +31,17 @@ impl Line {
     pub fn clear(&mut self)
         ensures { kept self.new ≡ nothing }
     {
-        self.len = 0;
-        self.more = false;
+        self.bytes = Ok(Buffer::new());
     }
 
     // Whether no byte came.
     pub fn is_empty(&self) -> bool
         ensures { result ≡ blank (kept self.now) }
     {
-        self.len == 0
+        match &self.bytes {
+            Ok(bytes) => bytes.as_slice().is_empty(),
+            Err(_) => false,
+        }
     }
 
     // The row of the line: its bytes before its end.
@@ -49,19 +49,15 @@ impl Line {
         ensures value { gives result (kept_row end (kept self.now)) }
         ensures law { (bs : List ℕ) → kept self.now ≡ keep_all bs → gives result (within_64 (before_end end bs)) }
     {
-        self.bytes_before(end)
-    }
-
-    fn bytes_before(&self, end: End) -> Result<&[u8], TooLong>
-        ensures { gives result (kept_row end (kept self.now)) }
-    {
-        let len = self.len;
-        let line = &self.bytes[0..len];
+        let Ok(bytes) = &self.bytes else {
+            return Err(TooLong);
+        };
+        let line = bytes.as_slice();
         let row = match end {
             End::LineFeed => without_return(line),
             End::Script => line,
         };
-        if self.more || row.len() > 64 {
+        if row.len() > 64 {
             return Err(TooLong);
         }
         Ok(row)

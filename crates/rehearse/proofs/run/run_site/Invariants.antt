@@ -1,5 +1,5 @@
-use Rattle.std.proofs.Common.{◌≡◌, length}
+use Rattle.std.proofs.Common.{◌-◌, ◌^◌}
 use Rattle.rehearse.proofs.run.run_site.Given as goal
 
-abbrev pub invariant-loop : goal.invariant-loop
-invariant-loop g l = (length l.notes ≡ 1024) × (length l.updates ≡ 512)
+abbrev pub decreases-loop-event : goal.decreases-loop-event
+decreases-loop-event g l = 2 ^ 64 - l.desk.row

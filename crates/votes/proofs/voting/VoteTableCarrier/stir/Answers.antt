@@ -1,49 +1,46 @@
-use Rattle.std.proofs.Common.{[], ◌∷◌, length, take, sym, refl, ap, ◌∙◌, subst, arith}
-use Rattle.votes.specs.Tables.{Table, line_of, after_vote}
-use Rattle.votes.specs.Kept.{table_of, Known, Cached}
-use Rattle.votes.specs.Means.{votes_of}
-use Rattle.votes.proofs.Growing.{line_le, open_le, length_after, known_after, line_below, line_begins}
-use Rattle.votes.proofs.Memory.{length_table}
+use Rattle.std.proofs.Common.{ℕ, length, take, sym, ap, ◌∙◌, subst, arith}
+use Rattle.carrier.specs.Meaning.{Meaning, with_line}
+use Rattle.carrier.specs.Logs.{log_meaning}
+use Rattle.votes.specs.Tables.{line_of}
+use Rattle.votes.specs.Kept.{Known}
+use Rattle.votes.specs.Votes.{votes_in}
+use Rattle.votes.proofs.Growing.{length_after, known_after, cast_begins, cast_longer}
 use Rattle.votes.proofs.voting.VoteTableCarrier.stir.Goals as goal
 
 pub invariant_of-self : goal.invariant_of-self
 invariant_of-self c =
     let s = c.args.self.now in
-    let n = c.vote-progress.ensures in
-    let now-held = table_of s.gateways c.vote-progress.new.memory.votes.now in
-    let known : Known s.count now-held = subst (Known s.count) (sym n.votes) (known_after s.gateways s.count (votes_of s) c.args.w s.votes_known) in
-    let cached : Cached now-held c.vote-progress.new.memory.line.now c.vote-progress.result.len c.vote-progress.result.first_open = subst (λ (t : Table). Cached t c.vote-progress.new.memory.line.now c.vote-progress.result.len c.vote-progress.result.first_open) (sym n.votes) n.cached in record {
-      few_gateways = s.few_gateways;
-      small_capacity = s.small_capacity;
-      few_slots = omega (arith, n.slots, s.few_slots);
-      line_fits = omega (arith, n.slots, n.size, s.line_fits);
-      count_within = s.count_within;
-      votes_known = known;
-      line_cached = cached;
-      line_known = line_below s.count now-held known;
-      places_long = s.places_long;
-      places_within = λ g h. omega (arith, s.places_within g h, s.line_cached.2, cached.2, n.longer);
+    let v = s.voting in
+    let t = votes_in v.slots in
+    let count = (log_meaning v.log).count in
+    let n = c.vote.ensures in
+    let now = c.vote.new.self in
+    let l = ap length n.votes in
+    let same = length_after v.slots.gateways count t c.from.result in
+    let known : Known count (votes_in now.slots) = subst (Known count) (sym n.votes) (known_after v.slots.gateways count t c.from.result s.votes_known) in
+    record {
+      gateways_of_log = n.gateways ∙ (s.gateways_of_log ∙ sym (ap (λ (m : Meaning). m.gateways) n.log));
+      few_slots = omega (arith, s.few_slots);
+      slots_within_limit = omega (arith, n.limit, s.slots_within_limit);
+      votes_known = subst (λ (k : ℕ). Known k (votes_in now.slots)) (sym (ap (λ (m : Meaning). m.count) n.log)) known;
+      line_cached = n.cached;
     }
 
-pub overflow_cast-result : goal.overflow_cast-result
-overflow_cast-result c =
-    let s = c.args.self.now in
-    let t = after_vote s.gateways s.count (votes_of s) c.args.w in
-    omega (arith, c.vote-progress.ensures.cached.2, line_le t, open_le t, length_after s.gateways s.count (votes_of s) c.args.w, length_table s.gateways s.memory.votes.now, s.few_slots)
+pub overflow_sub-result : goal.overflow_sub-result
+overflow_sub-result c =
+    let v = c.args.self.now.voting in
+    let l = ap length (ap line_of c.vote.ensures.votes) in
+    omega (arith, cast_longer v.slots.gateways (log_meaning v.log).count (votes_in v.slots) c.from.result)
 
-pub returns : goal.returns
-returns c =
-    let s = c.args.self.now in
-    let n = c.vote-progress.ensures in
-    let e = ap line_of n.votes in
-    let l = ap length e in
+pub returns-clause-stirred : goal.returns-clause-stirred
+returns-clause-stirred c =
+    let v = c.args.self.now.voting in
+    let t = votes_in v.slots in
+    let count = (log_meaning v.log).count in
+    let line = ap line_of c.vote.ensures.votes in
+    let l = ap length line in
     record {
-      stirred = record {
-        only_the_line = refl;
-        begins_as_before = ap (take (length (line_of (votes_of s)))) e ∙ line_begins s.gateways (votes_of s) ((s.count, c.args.w) ∷ []);
-        joined_are_counted = omega (arith, s.line_cached.2, n.cached.2, n.longer);
-      };
-      votes = n.votes;
-      line = e;
-      joined = omega (arith, s.line_cached.2, n.cached.2, n.longer);
+      only_the_line = ap (λ (m : Meaning). with_line m (line_of (votes_in c.vote.new.self.slots))) c.vote.ensures.log;
+      begins_as_before = ap (take (length (line_of t))) line ∙ cast_begins v.slots.gateways count t c.from.result;
+      joined_are_counted = omega (arith, cast_longer v.slots.gateways count t c.from.result);
     }
