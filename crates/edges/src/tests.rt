@@ -1,4 +1,5 @@
 use base::refusal::Refusal;
+use base::value::Value;
 use base::watts::Watts;
 use protocol::records::{Cell, Note, Update};
 use site::Site;
@@ -34,17 +35,40 @@ fn first(setting: u32) -> Watts {
     Watts(2000 + (setting % 100) as i32)
 }
 
-// Starts a site over a wire of its own, with the initial values of the settings.
+// Starts a site of these numbers over the tables and a wire of its own.
+fn start<V: Value>(
+    gateways: u32,
+    settings: u32,
+    changes: u32,
+    initial: &[V],
+    cells: &mut [Cell<V>],
+) -> Result<Site<V>, Refusal> {
+    let mut memory = [0; 1];
+    let wire = Wire::new(gateways, 1, 1, &mut memory);
+    Site::new(&wire, settings, changes, initial, cells)
+}
+
+// Starts a site with the initial values of the settings.
 fn started(
     gateways: u32,
     settings: u32,
     changes: u32,
     cells: &mut [Cell<Watts>],
 ) -> Result<Site<Watts>, Refusal> {
-    let mut memory = [0; 1];
-    let wire = Wire::new(gateways, 1, 1, &mut memory);
     let initial: [Watts; 64] = array::from_fn(|setting| first(setting as u32));
-    Site::new(&wire, settings, changes, &initial, cells)
+    start(gateways, settings, changes, &initial, cells)
+}
+
+// Whether a site of these numbers starts over the tables.
+fn starts(
+    gateways: u32,
+    settings: u32,
+    changes: u32,
+    initial: &[Watts],
+    cells: &mut [Cell<Watts>],
+) -> Result<(), Refusal> {
+    start(gateways, settings, changes, initial, cells)?;
+    Ok(())
 }
 
 // Whether a site starts over the wire and the tables.
@@ -57,19 +81,6 @@ fn starts_over(
 ) -> Result<(), Refusal> {
     Site::new(wire, settings, changes, initial, cells)?;
     Ok(())
-}
-
-// Whether a site of these numbers starts over the tables, and a wire of its own.
-fn starts(
-    gateways: u32,
-    settings: u32,
-    changes: u32,
-    initial: &[Watts],
-    cells: &mut [Cell<Watts>],
-) -> Result<(), Refusal> {
-    let mut memory = [0; 1];
-    let wire = Wire::new(gateways, 1, 1, &mut memory);
-    starts_over(&wire, settings, changes, initial, cells)
 }
 
 // Writes 1 to so many settings.

@@ -2,7 +2,7 @@ ghost use Rattle.std.specs.Prelude.{◌≡◌, ℕ, ◌+◌, ◌*◌, ◌<◌, �
 ghost use Rattle.protocol.specs.Calls.{initial_cell};
 ghost use Rattle.site.specs.Tables.{row, gateway_count};
 
-use crate::site::{Site, Size};
+use crate::site::Site;
 use base::value::Value;
 use protocol::records::Cell;
 
@@ -31,15 +31,17 @@ fn fill_row<V: Value>(cells: &mut [Cell<V>], initial: &[V])
     }
 }
 
-// Puts the initial values into the cells of every gateway.
-pub(crate) fn fill_rows<V: Value>(cells: &mut [Cell<V>], initial: &[V], size: Size)
-    requires cells_room { size.settings * size.gateways ≤ length cells.old }
-    requires initial_room { size.settings ≤ length initial.now }
-    ensures filled { (g : ℕ) → g < size.gateways → row size.settings g cells.new ≡ map initial_cell (take size.settings initial.now) }
-    ensures beyond { drop (size.settings * size.gateways) cells.new ≡ drop (size.settings * size.gateways) cells.old }
-{
-    for g in 0..size.gateways {
-        let start = size.settings * g;
-        fill_row(&mut cells[start..start + size.settings], initial);
+impl<V: Value> Site<V> {
+    // Puts the initial values into the cells of every gateway.
+    pub(crate) fn fill_rows(&self, cells: &mut [Cell<V>], initial: &[V])
+        requires cells_room { self.now.settings * gateway_count self.now ≤ length cells.old }
+        requires initial_room { self.now.settings ≤ length initial.now }
+        ensures filled { (g : ℕ) → g < gateway_count self.now → row self.now.settings g cells.new ≡ map initial_cell (take self.now.settings initial.now) }
+        ensures beyond { drop (self.now.settings * gateway_count self.now) cells.new ≡ drop (self.now.settings * gateway_count self.now) cells.old }
+    {
+        for g in 0..self.gateways.len() {
+            let start = self.settings * g;
+            fill_row(&mut cells[start..start + self.settings], initial);
+        }
     }
 }

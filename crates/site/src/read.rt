@@ -10,10 +10,9 @@ ghost use Rattle.site.specs.Contract.{SameBeside, Reads};
 ghost use Rattle.site.specs.Kept.{WellFormed};
 ghost use Rattle.site.specs.Tables.{change_count, gateway_count, record_of};
 
-use crate::checks::{check_known, check_open};
+use crate::checks::check_open;
 use crate::rows::front_of_row;
 use crate::site::Site;
-use base::checks::check_room;
 use base::lists::append;
 use base::refusal::Refusal;
 use base::value::Value;
@@ -49,11 +48,11 @@ impl<V: Value> Site<V> {
         ensures room { OnOk result ((self.now.settings * gateway_count self.now ≤ cells) × (16 * self.now.limit ≤ notes) × (8 * self.now.limit ≤ updates)) }
         ensures fine { IfOk result (λ c. (change < change_count self.now) × (setting < self.now.settings) × WellFormed (gateway_count self.now) c) }
     {
-        check_room(cells, self.settings * self.gateways.len())?;
-        check_room(notes, 16 * self.limit)?;
-        check_room(updates, 8 * self.limit)?;
+        self.check_cells(cells)?;
+        self.check_notes(notes)?;
+        self.check_updates(updates)?;
         let c = self.known_change(change)?;
-        check_known(setting, self.settings, Refusal::UnknownSetting)?;
+        self.check_setting(setting)?;
         check_open(c)
     }
 

@@ -6,18 +6,6 @@ use base::bounded::Bounded;
 use protocol::records::{Change, Gateway, Message};
 use std::marker::PhantomData;
 
-// How large a site is: each number is within its limit.
-#[derive(Clone, Copy)]
-pub(crate) struct Size {
-    pub(crate) gateways: usize,
-    pub(crate) settings: usize,
-    // How many changes there can be.
-    pub(crate) limit: usize,
-    ghost few_gateways: { gateways ≤ 8 },
-    ghost few_settings: { settings ≤ 64 },
-    ghost low_limit: { limit ≤ 256 },
-}
-
 // The settings of a battery site on its gateways, for values of type V: the site's own record. Cells, notes and updates
 // lie in tables that the caller lends to each call; the site allocates nothing.
 #[derive(Drop)]

@@ -2,23 +2,27 @@ use super::*;
 
 #[test]
 fn each_refusal_has_its_number(rt: HostRuntime) {
-    assert_eq!(rt; Refusal::Layout.code(), 1);
-    assert_eq!(rt; Refusal::Limits.code(), 2);
-    assert_eq!(rt; Refusal::Carrier.code(), 3);
-    assert_eq!(rt; Refusal::UnknownGateway.code(), 4);
-    assert_eq!(rt; Refusal::UnknownChange.code(), 5);
-    assert_eq!(rt; Refusal::UnknownSetting.code(), 6);
-    assert_eq!(rt; Refusal::NoChangeLeft.code(), 7);
-    assert_eq!(rt; Refusal::NotOpen.code(), 8);
-    assert_eq!(rt; Refusal::Overwritten.code(), 9);
-    assert_eq!(rt; Refusal::Full.code(), 10);
-    assert_eq!(rt; Refusal::Leading.code(), 11);
-    assert_eq!(rt; Refusal::NoHistory.code(), 12);
-    assert_eq!(rt; Refusal::NotLeading.code(), 13);
-    assert_eq!(rt; Refusal::NotSubmitted.code(), 14);
-    assert_eq!(rt; Refusal::AlreadyDecided.code(), 15);
-    assert_eq!(rt; Refusal::OpeningMissing.code(), 16);
-    assert_eq!(rt; Refusal::NoMessageLeft.code(), 17);
+    for (refusal, number) in [
+        (Refusal::Layout, 1),
+        (Refusal::Limits, 2),
+        (Refusal::Carrier, 3),
+        (Refusal::UnknownGateway, 4),
+        (Refusal::UnknownChange, 5),
+        (Refusal::UnknownSetting, 6),
+        (Refusal::NoChangeLeft, 7),
+        (Refusal::NotOpen, 8),
+        (Refusal::Overwritten, 9),
+        (Refusal::Full, 10),
+        (Refusal::Leading, 11),
+        (Refusal::NoHistory, 12),
+        (Refusal::NotLeading, 13),
+        (Refusal::NotSubmitted, 14),
+        (Refusal::AlreadyDecided, 15),
+        (Refusal::OpeningMissing, 16),
+        (Refusal::NoMessageLeft, 17),
+    ] {
+        assert_eq!(rt; refusal.code(), number);
+    }
 }
 
 #[test]

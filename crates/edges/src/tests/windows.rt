@@ -19,9 +19,7 @@ fn a_site_of_charge_windows_runs_a_change(rt: HostRuntime) -> Result<(), Fail> {
     let mut cells = [Cell { value, depth: 0 }; 2];
     let mut notes = [Note { setting: 0, value }; 16];
     let mut updates = [Update { setting: 0, value }; 8];
-    let mut memory = [0; 1];
-    let wire = Wire::new(2, 1, 1, &mut memory);
-    let mut site = Site::new(&wire, 1, 1, &[NIGHT], &mut cells)?;
+    let mut site = start(2, 1, 1, &[NIGHT], &mut cells)?;
     assert_eq!(rt; site.open(1), Ok(0));
     assert_eq!(rt; site.read(&cells, &mut notes, &updates, 0, 0), Ok(NIGHT));
     assert_eq!(rt; site.write(&mut updates, 0, 0, DAY), Ok(()));
