@@ -1,1 +1,2 @@
+pub mod BoundedLaws
 pub mod ListLaws

@@ -1,14 +1,16 @@
 -- The laws of the bounded list.
-use Rattle.std.proofs.Common.{◌≡◌, ℕ, suc, ◌+◌, ◌<◌, ◌≤◌, min, Bool, true, false, cond, not, eqb, List, [], ◌∷◌, ◌++◌, length, get_or, take, drop, set, Some, None, filter, find, option_map, Option, sym, refl, ap, ◌∙◌, ⊎_elim, arith, MatchOption}
+use Rattle.std.proofs.Common.{◌≡◌, ℕ, suc, ◌+◌, ◌<◌, ◌≤◌, min, Bool, true, false, cond, not, eqb, List, [], ◌∷◌, ◌++◌, length, take, drop, set, Some, None, filter, find, option_map, Option, sym, refl, ap, ◌∙◌, ⊎_elim, arith, MatchOption}
 use lib.Seq.{take-set-lt}
 use Rattle.std.proofs.lemmas.Bool.{lt-ltb, le-ltb, eq-eqb, ne_eqb, eqb-true, and_from, cond-true, cond-false, cond_both, cases_lt}
-use Rattle.std.proofs.lemmas.List.Filters.{FiltersInPlace, FiltersInPlace-more_no, FiltersInPlace-more_set}
-use Rattle.std.specs.Borrow.{Bor}
-use Rattle.std.specs.Fn.{Shared}
+use Rattle.std.proofs.lemmas.List.Filters.{FiltersInPlace}
 use Rattle.std.specs.List.{position_or_len}
 use Rattle.std.proofs.lemmas.List.Sums.{prefix_len-le-length}
-use Rattle.std.proofs.lemmas.List.{length-take-le, length-set, length-take, length_push, take_min, take_more_set, drop_min, drop-drop, drop-set-lt}
-use Rattle.base.specs.Lists.{found, lookup, put_in, appended, after_append, after_replace, Written, Stored, Put, Tests, Retained}
+use Rattle.std.proofs.lemmas.List.{length-take-le, length-set, length-take, length_push, take_min, take_more_set, drop_min, drop-set-lt}
+use Rattle.base.specs.Lists.{found, lookup, put_in, appended, after_append, after_replace, Written, Stored, Put}
+
+-- the front of the list, where its length was computed
+pub front : {X : Type 0} (m n : ℕ) (xs : List X) → m ≡ min n (length xs) → take m xs ≡ take n xs
+front m n xs e = ap (λ k. take k xs) e ∙ take_min n xs
 
 module _ {X : Type 0} (key : X → ℕ) where
   -- the index of the first element with the key q, or the length
@@ -97,30 +99,16 @@ module _ {X : Type 0} (key : X → ℕ) where
     pub lookup_put_in_other : (x : X) (q : ℕ) (xs : List X) → (key x ≡ q → ⊥) → lookup key val q (put_in key x xs) ≡ lookup key val q xs
     lookup_put_in_other x q xs n = ap (option_map val) (find_put_in_other x q xs n)
 
--- a filter loop over the list, at its element i
-abbrev pub Retaining : {F X : Type 0} → Shared F (Bor X × Unit {0}) Bool → F → List X → List X → ℕ → ℕ → Type 0
-Retaining {F} {X} g keep xs ys n i = (n ≤ i) × (drop i ys ≡ drop i xs) × ((p : X → Bool) → Tests g keep p → FiltersInPlace p xs ys n i)
+-- what a filter loop over the list leaves
+pub keeping_list : {X : Type 0} {p : X → Bool} {xs ys : List X} {n : ℕ} (count end : ℕ) → end ≡ min count (length xs) → FiltersInPlace p xs ys n end → take n ys ≡ filter p (take count xs)
+keeping_list {p = p} {xs = xs} count end e k = k.front ∙ ap (λ m. filter p (take m xs)) e ∙ ap (filter p) (take_min count xs)
 
-one_less : {X : Type 0} (xs ys : List X) (i : ℕ) → drop i ys ≡ drop i xs → drop (i + 1) ys ≡ drop (i + 1) xs
-one_less xs ys i e = sym (drop-drop 1 i ys) ∙ ap (drop 1) e ∙ drop-drop 1 i xs
+pub keeping_count : {X : Type 0} {p : X → Bool} {xs ys : List X} {n : ℕ} (count end : ℕ) → end ≡ min count (length xs) → FiltersInPlace p xs ys n end → n ≡ length (filter p (take count xs))
+keeping_count {ys = ys} {n = n} count end e k =
+    let l : n ≤ length ys = omega (arith, k.behind, k.within, k.long) in
+    sym (length-take-le n ys l) ∙ ap length (keeping_list count end e k)
 
-module _ {F X : Type 0} (g : Shared F (Bor X × Unit {0}) Bool) {keep : F} {xs ys : List X} {n i : ℕ} (k : Retaining g keep xs ys n i) where
-  pub retaining_kept : {x : X} → i < length ys → x ≡ get_or ys i x → ((p : X → Bool) → Tests g keep p → p x ≡ true) → Retaining g keep xs (set ys n x) (n + 1) (i + 1)
-  retaining_kept {x} l e t =
-      (omega (arith, k.0), drop-set-lt (i + 1) ys n x (omega (arith, k.0)) ∙ one_less xs ys i k.1, λ p h. FiltersInPlace-more_set (k.2 p h) l (t p h) e)
-
-  pub retaining_dropped : {x : X} → i < length ys → x ≡ get_or ys i x → ((p : X → Bool) → Tests g keep p → p x ≡ false) → Retaining g keep xs ys n (i + 1)
-  retaining_dropped l e t = (omega (arith, k.0), one_less xs ys i k.1, λ p h. FiltersInPlace-more_no (k.2 p h) l (t p h) e)
-
-  -- what the loop leaves
-  module _ (count : ℕ) (long : length ys ≡ length xs) (end : i ≡ min count (length xs)) where
-    pub retaining_list : (p : X → Bool) → Tests g keep p → Retained p (take count xs) ys n
-    retaining_list p t =
-        let f : take n ys ≡ filter p (take count xs) = (k.2 p t).front ∙ ap (λ m. filter p (take m xs)) end ∙ ap (filter p) (take_min count xs) in
-        let l : n ≤ length ys = omega (arith, k.0) in
-        record { counted = sym (length-take-le n ys l) ∙ ap length f; list = f }
-
-    pub retaining_rest : drop count ys ≡ drop count xs
-    retaining_rest =
-        let a : min count (length ys) ≡ i = ap (min count) long ∙ sym end in
-        sym (drop_min count ys) ∙ ap (λ m. drop m ys) a ∙ k.1 ∙ ap (λ m. drop m xs) end ∙ drop_min count xs
+pub keeping_rest : {X : Type 0} {p : X → Bool} {xs ys : List X} {n : ℕ} (count end : ℕ) → end ≡ min count (length xs) → FiltersInPlace p xs ys n end → drop count ys ≡ drop count xs
+keeping_rest {xs = xs} {ys = ys} count end e k =
+    let a : end ≡ min count (length ys) = omega (arith, k.long) in
+    sym (drop_min count ys) ∙ ap (λ m. drop m ys) (sym a) ∙ k.rest ∙ ap (λ m. drop m xs) e ∙ drop_min count xs

@@ -1,7 +1,5 @@
 -- The bounded list: the first `count` elements of lent memory, or all of it where the count is larger.
-use Rattle.std.specs.Prelude.{◌≡◌, ℕ, ◌+◌, ◌<◌, ◌≤◌, Bool, cond, ◌&&◌, List, [], ◌∷◌, length, take, drop, Some, None, filter, position, find, option_map, Option, MatchOption, ◌==◌, nat_lt, slice_set}
-use Rattle.std.specs.Borrow.{Bor}
-use Rattle.std.specs.Fn.{Shared, AnyResult}
+use Rattle.std.specs.Prelude.{◌≡◌, ℕ, ◌+◌, ◌<◌, ◌≤◌, Bool, cond, ◌&&◌, List, [], ◌∷◌, length, take, drop, Some, None, position, find, option_map, Option, MatchOption, ◌==◌, nat_lt, slice_set}
 
 -- the index of the first element with the key q, or none
 abbrev pub found : {X : Type 0} → (X → ℕ) → ℕ → List X → Option ℕ
@@ -53,12 +51,3 @@ pub record Stored {X : Type 0} (xs mem mem' : List X) (n : ℕ) : Type 0 where
 -- put: the list with x put in is stored, and its length answered, where the memory has room for it
 abbrev pub Put : {X : Type 0} → (X → ℕ) → X → List X → ℕ → List X → Option ℕ → Type 0
 Put key x mem count mem' r = MatchOption r (NotStored (put_in key x (take count mem)) mem mem') (Stored (put_in key x (take count mem)) mem mem')
-
--- a closure answers p of each element that it is lent
-abbrev pub Tests : {F X : Type 0} → Shared F (Bor X × Unit {0}) Bool → F → (X → Bool) → Type 0
-Tests {F} {X} g f p = (x : Bor X) → AnyResult g f (x, tt) (λ r. r ≡ p x.now)
-
--- retain: the n elements that pass are at the memory's start, in their order
-pub record Retained {X : Type 0} (p : X → Bool) (xs mem' : List X) (n : ℕ) : Type 0 where
-  pub counted : n ≡ length (filter p xs)
-  pub list : take n mem' ≡ filter p xs

@@ -17,9 +17,10 @@ pub struct Bounded<T, const N: usize> {
 pub struct Full;
 
 impl<T: Copy, const N: usize> Bounded<T, N> {
-    ghost use Rattle.base.specs.Bounded.{listed};
+    ghost use Rattle.base.specs.Bounded.{listed, unused};
 
     // The list of `len` times x, or of N times where that is less.
+    #[tactic(auto, using(crate::proofs::BoundedLaws::bounded_steps))]
     pub fn filled(x: T, len: usize) -> Bounded<T, N>
         ensures { listed result ≡ replicate (min len N) x }
     {
@@ -51,9 +52,11 @@ impl<T: Copy, const N: usize> Bounded<T, N> {
         Ok(())
     }
 
-    // Puts x in the place of the element `at`, if there is one.
+    // Puts x in the place of the element `at`, if there is one; alters nothing else.
+    #[tactic(auto, using(crate::proofs::BoundedLaws::bounded_steps))]
     pub fn set(&mut self, at: usize, x: T)
-        ensures { listed self.new ≡ slice_set (listed self.old) at x }
+        ensures list { listed self.new ≡ slice_set (listed self.old) at x }
+        ensures rest { unused self.new ≡ unused self.old }
     {
         if at < self.len {
             self.array[at] = x;
@@ -65,6 +68,7 @@ impl<T, const N: usize> Bounded<T, N> {
     ghost use Rattle.base.specs.Bounded.{listed};
 
     // How many elements the list has.
+    #[tactic(auto, using(crate::proofs::BoundedLaws::bounded_steps))]
     pub fn len(&self) -> usize
         ensures value { result ≡ length (listed self.now) }
         ensures fits { result ≤ N }

@@ -1,7 +1,7 @@
 // The bounded list: functions over lent memory and a count. The list is the first `count` elements of the memory, or all
 // of it where the count is larger; behind the list the memory may hold anything.
-ghost use Rattle.std.specs.Prelude.{◌≡◌, ◌≤◌, ℕ, Bool, take, drop, Some, MatchOption};
-ghost use Rattle.base.specs.Lists.{found, appended, after_append, has_element, after_replace, Written, Put, Tests, Retained};
+ghost use Rattle.std.specs.Prelude.{◌≡◌, ◌≤◌, ℕ, Bool, length, take, drop, Some, filter as kept_by, MatchOption};
+ghost use Rattle.base.specs.Lists.{found, appended, after_append, has_element, after_replace, Written, Put};
 
 // What has a number by which a list finds it.
 pub trait Keyed {
@@ -20,11 +20,28 @@ impl Keyed for u16 {
     }
 }
 
+// Which elements of a list stay in it. A trait, since a closure that is handed in would have to be asked whether it can be
+// called.
+pub trait Filter<T> {
+    ghost passes: { Self → T → Bool };
+
+    fn pass(&self, x: &T) -> bool
+        ensures { result ≡ passes self.now x.now };
+}
+
+// The place of the first element with the key, of all.
+fn first_place<T: Copy + Keyed>(list: &[T], key: u32) -> Option<usize>
+    ensures { result ≡ found T.Keyed.key key list.now }
+{
+    list.iter().position(|x| x.key() == key)
+}
+
 // The place of the first element with the key.
+#[tactic(auto, using(crate::proofs::ListLaws::front))]
 pub fn find<T: Copy + Keyed>(mem: &[T], count: usize, key: u32) -> Option<usize>
     ensures { result ≡ found T.Keyed.key key (take count mem.now) }
 {
-    mem.iter().take(count).position(|x| x.key() == key)
+    first_place(&mem[..count.min(mem.len())], key)
 }
 
 // Puts x behind the list and answers the new count; none, and nothing altered, where the memory is full.
@@ -76,10 +93,10 @@ fn write<T: Copy>(mem: &mut [T], count: usize, at: Option<usize>, x: T) -> Optio
     }
 }
 
-// Drops, keeping order, each element for which `keep` answers false; answers how many are left.
-pub fn retain<T: Copy, F: Fn(&T) -> bool>(mem: &mut [T], count: usize, keep: F) -> usize
-    requires { F.IsAlwaysCallable keep }
-    ensures list { (p : T → Bool) → Tests F.Fn keep p → Retained p (take count mem.old) mem.new result }
+// Drops, keeping order, each element that does not pass the filter; answers how many are left.
+pub fn retain<T: Copy, F: Filter<T>>(mem: &mut [T], count: usize, filter: &F) -> usize
+    ensures list { take result mem.new ≡ kept_by (F.Filter.passes filter.now) (take count mem.old) }
+    ensures counted { result ≡ length (kept_by (F.Filter.passes filter.now) (take count mem.old)) }
     ensures rest { drop count mem.new ≡ drop count mem.old }
     ensures fewer { result ≤ count }
 {
@@ -87,7 +104,7 @@ pub fn retain<T: Copy, F: Fn(&T) -> bool>(mem: &mut [T], count: usize, keep: F) 
     let mut n = 0;
     for i in 0..end {
         let x = mem[i];
-        if keep(&x) {
+        if filter.pass(&x) {
             mem[n] = x;
             n += 1;
         }

@@ -1,4 +1,4 @@
-ghost use Rattle.std.specs.Prelude.{◌≡◌, ◌-◌, ◌^◌, ◌<◌, IfOk, IfSome};
+ghost use Rattle.std.specs.Prelude.{◌≡◌, ◌-◌, ◌^◌, ◌<◌, ◌≤◌, IfOk, IfSome};
 
 use script::command::Command;
 use script::event::Event;
@@ -7,13 +7,56 @@ use script::line::{End, Line};
 use script::listing::{Listed, list_row};
 use script::row::{is_header, parse_row};
 use std::io;
-use std::io::{BufRead, Write};
+use std::io::{Read, Write};
+
+// Input that is read ahead into memory of its own: reading allocates nothing.
+#[derive(Drop)]
+struct Input<R> {
+    source: R,
+    bytes: [u8; 8192],
+    at: usize,
+    len: usize,
+    ghost within: { len ≤ 8192 },
+}
+
+impl<R: Read> Input<R> {
+    fn new(source: R) -> Input<R> {
+        Input {
+            source,
+            bytes: [0; 8192],
+            at: 0,
+            len: 0,
+        }
+    }
+
+    // Reads on where every byte that was read is consumed.
+    fn fill(&mut self) -> io::Result<()> {
+        if self.at >= self.len {
+            self.len = self.source.read(&mut self.bytes)?;
+            self.at = 0;
+        }
+        Ok(())
+    }
+
+    // The bytes that are read and not consumed.
+    fn buffer(&self) -> &[u8] {
+        if self.at >= self.len {
+            return &[];
+        }
+        &self.bytes[self.at..self.len]
+    }
+
+    fn consume(&mut self, amount: usize) {
+        self.at = self.at.saturating_add(amount);
+    }
+}
 
 // Reads on to the end of the next line; what ended it, or none where the script has no line more.
-fn next_line<R: BufRead>(source: &mut R, line: &mut Line) -> io::Result<Option<End>> {
+fn next_line<R: Read>(source: &mut Input<R>, line: &mut Line) -> io::Result<Option<End>> {
     line.clear();
     for _ in 0..u64::MAX {
-        let bytes = source.fill_buf()?;
+        source.fill()?;
+        let bytes = source.buffer();
         if bytes.is_empty() {
             break;
         }
@@ -43,16 +86,16 @@ fn read_command(line: &Line, end: End) -> Result<(Event, Command), RowFault> {
 // A script that is read, and the listing that is written: the line that was read last, and how many rows are read.
 #[derive(Drop)]
 pub(crate) struct Desk<R, W> {
-    source: R,
+    source: Input<R>,
     line: Line,
     row: u64,
     out: W,
 }
 
-impl<R: BufRead, W: Write> Desk<R, W> {
+impl<R: Read, W: Write> Desk<R, W> {
     pub(crate) fn new(source: R, out: W) -> Desk<R, W> {
         Desk {
-            source,
+            source: Input::new(source),
             line: Line::new(),
             row: 0,
             out,

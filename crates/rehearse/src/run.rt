@@ -12,7 +12,7 @@ use script::fault::RowFault;
 use script::listing::{Answered, listing_header};
 use site::Site;
 use std::io;
-use std::io::{BufRead, BufReader, BufWriter, Write};
+use std::io::{BufWriter, Read, Write};
 use votes::slot::Slot;
 use votes::table::VoteTable;
 use wire::Wire;
@@ -33,7 +33,7 @@ pub(crate) enum Broadcast {
 }
 
 // Performs the rest of the script on a started site.
-fn run_site<C: Carrier, R: BufRead, W: Write>(
+fn run_site<C: Carrier, R: Read, W: Write>(
     desk: &mut Desk<R, W>,
     mut site: Site<Watts>,
     carrier: &mut C,
@@ -55,7 +55,7 @@ fn run_site<C: Carrier, R: BufRead, W: Write>(
 }
 
 // Starts a site over the carrier and performs the rest of the script on it; the refusal where it does not start.
-fn start_over<C: Carrier, R: BufRead, W: Write>(
+fn start_over<C: Carrier, R: Read, W: Write>(
     desk: &mut Desk<R, W>,
     carrier: &mut C,
     settings: u32,
@@ -81,41 +81,43 @@ fn start_over<C: Carrier, R: BufRead, W: Write>(
     }
 }
 
-// Makes the carrier that a start asks for and starts a site over it, as `start_over` does. Any other command is refused.
-fn start_by<R: BufRead, W: Write>(
+// Makes the carrier for so many gateways and starts a site over it, as `start_over` does.
+fn start_by<R: Read, W: Write>(
     desk: &mut Desk<R, W>,
     broadcast: Broadcast,
-    command: Command,
+    gateways: u32,
+    settings: u32,
+    watts: Watts,
 ) -> io::Result<Result<(), Refusal>>
     ensures { IfOk result (λ started. OnErr started (desk.new ≡ desk.old)) }
 {
-    let Command::Start {
-        gateways,
-        settings,
-        watts,
-    } = command
-    else {
-        return Ok(Err(Refusal::Limits));
-    };
     match broadcast {
         Broadcast::Wire => {
             let mut line = [0; 1024];
             let mut wire = Wire::new(gateways, CAPACITY, LINE_LIMIT, &mut line);
-            start_over(desk, &mut wire, settings, Watts(watts))
+            start_over(desk, &mut wire, settings, watts)
         }
         Broadcast::Votes => {
             let mut votes = [Slot::EMPTY; 64];
             let mut line = [0; 64];
             let mut table = VoteTable::new(gateways, CAPACITY, SLOTS, &mut votes, &mut line);
-            start_over(desk, &mut table, settings, Watts(watts))
+            start_over(desk, &mut table, settings, watts)
         }
     }
 }
 
-// Performs the script from its first row on.
-fn run_script<R: BufRead, W: Write>(desk: &mut Desk<R, W>, broadcast: Broadcast) -> io::Result<()> {
+// Performs the script from its first row on. What comes before a start is refused.
+fn run_script<R: Read, W: Write>(desk: &mut Desk<R, W>, broadcast: Broadcast) -> io::Result<()> {
     while let Some((event, command)) = desk.next_command()? {
-        match start_by(desk, broadcast, command)? {
+        let started = match command {
+            Command::Start {
+                gateways,
+                settings,
+                watts,
+            } => start_by(desk, broadcast, gateways, settings, Watts(watts))?,
+            _ => Err(Refusal::Limits),
+        };
+        match started {
             Ok(()) => break,
             Err(refusal) => desk.list(Ok(Answered {
                 event,
@@ -128,10 +130,9 @@ fn run_script<R: BufRead, W: Write>(desk: &mut Desk<R, W>, broadcast: Broadcast)
 
 // Reads the script from standard input and writes the listing to standard output.
 pub(crate) fn rehearse(rt: &HostRuntime, broadcast: Broadcast) -> io::Result<()> {
-    let source = BufReader::new(rt.alloc(), rt.stdin())?;
     let mut out = BufWriter::new(rt.alloc(), rt.stdout())?;
     out.write_all(listing_header())?;
-    let mut desk = Desk::new(source, out);
+    let mut desk = Desk::new(rt.stdin(), out);
     if desk.takes_header()? {
         run_script(&mut desk, broadcast)?;
     } else {

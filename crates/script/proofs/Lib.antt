@@ -1,4 +1,4 @@
-pub mod Parsing
+pub mod Reading
 pub mod Keeping
 pub mod Clipping
 pub mod Entries

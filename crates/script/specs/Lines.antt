@@ -1,8 +1,6 @@
 -- Lines as they are read: what is kept of their bytes, and the row that they give at their end.
-use Rattle.std.specs.Prelude.{◌≡◌, ℕ, ◌-◌, Bool, false, cond, List, [], ◌∷◌, ◌++◌, length, take, Some, None, Ok, Err, fold, Option, Result, ◌==◌, nat_lt, slice_index}
+use Rattle.std.specs.Prelude.{◌≡◌, ℕ, ◌-◌, Bool, true, false, cond, List, [], ◌∷◌, ◌++◌, length, take, Some, None, Ok, Err, fold, Option, Result, ◌==◌, nat_lt, slice_index}
 use Rattle.std.specs.Borrow.{Bor}
-use Rattle.std.specs.Option.{option_map, option_map_or, option_and_then}
-use Rattle.std.specs.Result.{result_ok}
 use Rattle.script.specs.declared.fault.TooLong.{TooLong}
 use Rattle.script.specs.declared.line.Line.{Line}
 use Rattle.script.specs.declared.line.End.{End}
@@ -10,28 +8,30 @@ use Rattle.script.specs.declared.line.End.TheVariants.{LineFeed, Script}
 use Rattle.script.specs.Buffers.{held}
 use Rattle.script.specs.Bytes.{carriage_return}
 
--- the bytes that a line keeps, or none where more than 65 came
-abbrev pub kept : Line → Option (List ℕ)
-kept line = option_map held (result_ok line.bytes)
+-- what is kept of a line: its first bytes, and whether more came
+pub record Kept : Type 0 where
+  pub first : List ℕ
+  pub more : Bool
+
+-- the bytes that a line holds
+abbrev pub kept : Line → Kept
+kept line = record { first = held line.bytes; more = line.more }
 
 -- a line with no byte
-abbrev pub nothing : Option (List ℕ)
-nothing = Some []
+abbrev pub nothing : Kept
+nothing = record { first = []; more = false }
 
--- bytes with one more, or none where that is more than 65
-abbrev pub with_byte : ℕ → List ℕ → Option (List ℕ)
-with_byte b bs = cond (nat_lt (length bs) 65) (Some (bs ++ (b ∷ []))) None
-
--- what is kept after one more byte
-abbrev pub keep : Option (List ℕ) → ℕ → Option (List ℕ)
-keep k b = option_and_then (with_byte b) k
+-- one more byte: 65 are kept
+abbrev pub keep : Kept → ℕ → Kept
+keep k b =
+    cond (nat_lt (length k.first) 65) (record { first = k.first ++ (b ∷ []); more = k.more }) (record { first = k.first; more = true })
 
 -- whether no byte came
-abbrev pub blank : Option (List ℕ) → Bool
-blank k = option_map_or (λ bs. length bs == 0) k false
+abbrev pub blank : Kept → Bool
+blank k = length k.first == 0
 
 -- bytes, one after the other
-abbrev pub keep_all : List ℕ → Option (List ℕ)
+abbrev pub keep_all : List ℕ → Kept
 keep_all bs = fold keep nothing bs
 
 -- the bytes without a carriage return at their end
@@ -48,8 +48,8 @@ abbrev pub within_64 : List ℕ → Option (List ℕ)
 within_64 bs = cond (nat_lt 64 (length bs)) None (Some bs)
 
 -- the row of what is kept
-abbrev pub kept_row : End → Option (List ℕ) → Option (List ℕ)
-kept_row end k = option_and_then (λ bs. within_64 (before_end end bs)) k
+abbrev pub kept_row : End → Kept → Option (List ℕ)
+kept_row end k = cond k.more None (within_64 (before_end end k.first))
 
 -- an answer is this row, or that the line is too long
 abbrev pub gives : Result (Bor (List ℕ)) TooLong → Option (List ℕ) → Type 0

@@ -1,7 +1,7 @@
 -- Numbers as a script writes them.
 use Rattle.std.specs.Prelude.{ℕ, ◌+◌, ◌-◌, ◌*◌, ◌^◌, Bool, cond, not, ◌&&◌, List, [], ◌∷◌, length, drop, ℤ, pos, neg_ℤ, Ok, Err, Result, ◌==◌, nat_lt, slice_index}
-use Rattle.std.specs.Str.{IsUtf8, all_ascii_digits}
-use Rattle.std.specs.declared.num.ParseIntError.{ParseIntError}
+use Rattle.std.specs.Char.{is_ascii_digit}
+use Rattle.std.specs.Str.{all_ascii_digits}
 use Rattle.script.specs.declared.fault.BadNumber.{BadNumber}
 use Rattle.script.specs.Bytes.{byte}
 
@@ -13,6 +13,10 @@ value_after n (c ∷ cs) = value_after (n * 10 + (c - byte "0")) cs
 -- a value where it passes the test, else a bad number
 abbrev pub number_if : {V : Type 0} → Bool → V → Result V BadNumber
 number_if ok v = cond ok (Ok v) (Err (record {}))
+
+-- the number n with one digit more, in 32 bits
+abbrev pub with_digit : ℕ → ℕ → Result ℕ BadNumber
+with_digit n c = number_if (is_ascii_digit c && nat_lt (n * 10 + (c - byte "0")) (2 ^ 32)) (n * 10 + (c - byte "0"))
 
 -- what digits say after those of n: a number of 32 bits
 abbrev pub read_digits : ℕ → List ℕ → Result ℕ BadNumber
@@ -42,8 +46,3 @@ then_watts (Err e) f = Err e
 -- watts: a number, after `-` where it is negative
 abbrev pub read_watts : List ℕ → Result ℤ BadNumber
 read_watts bs = cond (slice_index bs 0 == (byte "-")) (then_watts (read_number (drop 1 bs)) downward) (then_watts (read_number bs) upward)
-
--- an answer is the integer that the library reads in the bytes, or a bad number where it reads none
-abbrev pub Parses : {V : Type 0} → (List ℕ → Result V ParseIntError → Type 0) → List ℕ → Result V BadNumber → Type 0
-Parses reads bs (Ok n) = reads bs (Ok n)
-Parses reads bs (Err e) = IsUtf8 bs → (d : ParseIntError) × reads bs (Err d)

@@ -3,9 +3,6 @@ ghost use Rattle.std.specs.Prelude.{◌≡◌};
 ghost use Rattle.script.specs.Listings.{cause_word};
 ghost use Rattle.script.specs.declared.fault.Cause.TheVariants.{Shape, Letter, Number};
 
-use std::num::ParseIntError;
-use std::str::Utf8Error;
-
 // Why a row is at fault.
 #[derive(Clone, Copy, PartialEq, Eq, Debug)]
 pub enum Cause {
@@ -79,18 +76,6 @@ impl RowFault {
         field: 5,
         cause: Cause::Header,
     };
-}
-
-impl From<Utf8Error> for BadNumber {
-    fn from(_error: Utf8Error) -> BadNumber {
-        BadNumber
-    }
-}
-
-impl From<ParseIntError> for BadNumber {
-    fn from(_error: ParseIntError) -> BadNumber {
-        BadNumber
-    }
 }
 
 impl<const F: u8> From<BadNumber> for FieldFault<F> {

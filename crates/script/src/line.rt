@@ -2,12 +2,12 @@
 mod reading;
 
 use crate::buffer::Buffer;
-use crate::fault::TooLong;
 
-// The bytes of a line so far, where at most 65 came: 64 bytes and a carriage return fit.
+// The bytes of a line so far: the first 65 of them, and whether more came. 64 bytes and a carriage return fit.
 #[derive(Clone, Copy)]
 pub struct Line {
-    bytes: Result<Buffer<65>, TooLong>,
+    bytes: Buffer<65>,
+    more: bool,
 }
 
 // What ended a line: a line feed, or the end of the script.

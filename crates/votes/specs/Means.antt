@@ -16,4 +16,4 @@ meaning_of t = with_line (log_meaning t.voting.log) (line_of (votes_of t))
 
 -- the votes that it holds after one more
 abbrev pub votes_after : VoteTable → ℕ → Table
-votes_after t w = after_vote t.voting.slots.gateways (meaning_of t).count (votes_of t) w
+votes_after t w = after_vote (meaning_of t).gateways (meaning_of t).count (votes_of t) w

@@ -1,3 +1,6 @@
+ghost use Rattle.std.specs.Prelude.{not, is_some};
+ghost use Rattle.base.specs.Lists.{found};
+
 use super::*;
 
 #[test]
@@ -36,14 +39,26 @@ fn puts_by_key(rt: HostRuntime) {
     assert_eq!(rt; mem, [7, 8]);
 }
 
+// Passes what has no key of the lent elements.
+#[derive(Drop)]
+struct Unlisted<'a, N> {
+    others: &'a [N],
+}
+
+impl<'a, T: Copy + Keyed, N: Copy + Keyed> Filter<T> for Unlisted<'a, N> {
+    ghost passes = { λ f x. not (is_some (found N.Keyed.key (T.Keyed.key x) f.others.now)) };
+
+    fn pass(&self, x: &T) -> bool {
+        find(self.others, self.others.len(), x.key()).is_none()
+    }
+}
+
 #[test]
 fn retains_what_passes(rt: HostRuntime) {
     let mut mem: [u16; 5] = [1, 2, 3, 4, 2];
     let others: [u16; 2] = [2, 3];
-    assert_eq!(rt;
-        retain(&mut mem, 4, |x| find(&others, 2, x.key()).is_none()),
-        2
-    );
+    let filter = Unlisted { others: &others };
+    assert_eq!(rt; retain(&mut mem, 4, &filter), 2);
     assert_eq!(rt; mem[0], 1);
     assert_eq!(rt; mem[1], 4);
     assert_eq!(rt; mem[4], 2);

@@ -16,6 +16,13 @@ impl<const N: usize> Buffer<N> {
         }
     }
 
+    // Lets the bytes go.
+    pub(crate) fn clear(&mut self)
+        ensures { held self.new ≡ [] }
+    {
+        self.len = 0;
+    }
+
     // One more byte, where there is room.
     pub(crate) fn push(&mut self, byte: u8) -> Result<(), Full>
         ensures ok { OnOk result ((length (held self.old) < N) × (held self.new ≡ held self.old ++ byte ∷ [])) }

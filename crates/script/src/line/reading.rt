@@ -12,7 +12,8 @@ impl Line {
         ensures { kept result ≡ nothing }
     {
         Line {
-            bytes: Ok(Buffer::new()),
+            bytes: Buffer::new(),
+            more: false,
         }
     }
 
@@ -20,10 +21,8 @@ impl Line {
     pub fn push(&mut self, byte: u8)
         ensures { kept self.new ≡ keep (kept self.old) byte }
     {
-        if let Ok(bytes) = &mut self.bytes {
-            if bytes.push(byte).is_err() {
-                self.bytes = Err(TooLong);
-            }
+        if self.bytes.push(byte).is_err() {
+            self.more = true;
         }
     }
 
@@ -31,17 +30,15 @@ impl Line {
     pub fn clear(&mut self)
         ensures { kept self.new ≡ nothing }
     {
-        self.bytes = Ok(Buffer::new());
+        self.bytes.clear();
+        self.more = false;
     }
 
     // Whether no byte came.
     pub fn is_empty(&self) -> bool
         ensures { result ≡ blank (kept self.now) }
     {
-        match &self.bytes {
-            Ok(bytes) => bytes.as_slice().is_empty(),
-            Err(_) => false,
-        }
+        self.bytes.as_slice().is_empty()
     }
 
     // The row of the line: its bytes before its end.
@@ -49,15 +46,18 @@ impl Line {
         ensures value { gives result (kept_row end (kept self.now)) }
         ensures law { (bs : List ℕ) → kept self.now ≡ keep_all bs → gives result (within_64 (before_end end bs)) }
     {
-        let Ok(bytes) = &self.bytes else {
-            return Err(TooLong);
-        };
-        let line = bytes.as_slice();
+        self.bytes_before(end)
+    }
+
+    fn bytes_before(&self, end: End) -> Result<&[u8], TooLong>
+        ensures { gives result (kept_row end (kept self.now)) }
+    {
+        let line = self.bytes.as_slice();
         let row = match end {
             End::LineFeed => without_return(line),
             End::Script => line,
         };
-        if row.len() > 64 {
+        if self.more || row.len() > 64 {
             return Err(TooLong);
         }
         Ok(row)
